@@ -1,0 +1,3 @@
+pub mod Nan
+pub mod Back
+pub mod Only

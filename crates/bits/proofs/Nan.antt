@@ -1,0 +1,40 @@
+-- Which bits and which f64s are a NaN: bits that are above infinity's, and the one f64 that differs from itself. Assumes nothing.
+use mathlib.Core.Path.{_≡_, refl, sym, _∙_, subst}
+use mathlib.Core.Bool.{true, false, not, true≢false}
+use Prim.Native.Nat.{ℕ}
+use lib.Dec.{T}
+use lib.Ieee.{Float, nan, inf, fin, binary64, ofBits, toBits, isNan, nanBits, ne}
+use lib.Ieee.Bits.{nanBits-is, nanBits-above}
+use lib.Ieee.Compare.{differs-from-itself, nan-differs}
+use Rattle.bits.specs.Bits.{not-a-number, isNanBits}
+
+-- ---- bits
+pub nan-bits : (b : ℕ) → nanBits binary64 b ≡ isNanBits b
+nan-bits = nanBits-above binary64
+
+only-nan : (x : Float) → isNan x ≡ true → x ≡ nan
+unfolding isNan
+only-nan nan e = refl
+only-nan (inf s) e = cc
+only-nan (fin s m k) e = cc
+
+-- whether the f64 of these bits is a NaN
+pub of-nan-bits : (b : ℕ) → isNan (ofBits binary64 b) ≡ isNanBits b
+of-nan-bits b = sym (nanBits-is binary64 b) ∙ nan-bits b
+
+pub above : (b : ℕ) → isNanBits b ≡ true → ofBits binary64 b ≡ nan
+above b e = only-nan (ofBits binary64 b) (of-nan-bits b ∙ e)
+
+pub written : toBits binary64 nan ≡ not-a-number
+unfolding toBits
+written = refl
+
+-- ---- f64s
+pub differs : (x : Float) → ne x x ≡ true → x ≡ nan
+differs x e = differs-from-itself x (subst T (sym e) tt)
+
+pub number : (x : Float) → ne x x ≡ false → T (not (isNan x))
+unfolding isNan
+number nan e = absurd (true≢false (sym nan-differs ∙ e))
+number (inf s) e = tt
+number (fin s m k) e = tt

@@ -1,0 +1,5 @@
+pub mod Operations
+pub mod Powers
+pub mod Laws
+pub mod Only
+pub mod Cases

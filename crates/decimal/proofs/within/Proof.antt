@@ -1,0 +1,10 @@
+-- `decimal::within` meets its contract: it makes the two tests that `fits` makes. Assumes nothing.
+use borrow.Author.Needs.{needs}
+use Rattle.decimal.proofs.within.Statement.{statement}
+use Rattle.decimal.proofs.within.Tie as tie
+
+returns : tie.Need-returns
+returns c = rw (c .power-of .ensures)
+
+pub within-spec : {M : Type 1} → statement M
+within-spec = tie.close (tie.spec (λ c κs. search needs) returns)

@@ -1,0 +1,66 @@
+-- `number::nested` meets its contract: it calls itself with `left` less by one, which is the measure (`Depth` has its ways). Assumes nothing.
+use borrow.Author.Needs.{needs}
+use mathlib.Core.Path.{ap, _∙_}
+use native.Mathlib.Omega.{arith}
+use Prim.Native.Nat.{ℕ, _<_}
+use borrow.Fn.Kinds.{In}
+use borrow.Fn.PlainCycle.{Measures, is, falls, and}
+use Rattle.number.specs.Number.{closed}
+use Rattle.number.proofs.Depth.{no-root, too-deep, deeper}
+use Rattle.number.proofs.nested.Reads as nested
+use Rattle.number.proofs.nested.Kinds as nested-kinds
+use Rattle.number.proofs.+nested.Lts-nested as nested-lts
+use Rattle.number.proofs.close_root.Reads as close-root-reads
+use Rattle.number.proofs.no_number.Reads as no-number-reads
+use Rattle.number.proofs.number_at.Reads as number-at-reads
+use Rattle.text.proofs.word.Reads as word-reads
+use Rattle.number.proofs.+nested.{statement}
+use Rattle.number.proofs.+nested.Tie.{close}
+
+abbrev μ-nested : Measures 1 nested-kinds.ps ℕ
+μ-nested κs a = a .1 .1 .0
+
+abbrev nested-at : ℕ → In 1 nested-kinds.ps
+nested-at t = and 1 nested-kinds.ps (is 1 nested-kinds.ps μ-nested t) nested.Pre
+
+abbrev nested-below : ℕ → In 1 nested-kinds.ps
+nested-below t = and 1 nested-kinds.ps (falls 1 nested-kinds.ps _<_ μ-nested t) nested.Pre
+
+pub +nested-spec : {M : Type 1} → statement M
++nested-spec = close μ-nested λ t. nested-lts.spec (
+  word-reads.Asked,
+  word-reads.Learnt,
+  number-at-reads.Asked,
+  number-at-reads.Learnt,
+  no-number-reads.Asked,
+  no-number-reads.Learnt,
+  nested-below t,
+  nested.Post,
+  close-root-reads.Asked,
+  close-root-reads.Learnt,
+)
+    (nested-at t)
+    nested.Post
+    (λ c. search needs)
+    (λ c κs. search needs)
+    (λ c. search needs)
+    (λ c κs. search needs)
+    (λ c.
+    let a = c .before .before .before .before .before .args in
+    let w = c .before .before .word in
+    c .number-at .ensures ∙ no-root (a .text .now) (a .at) (w .result) (w .ensures) (a .left) (c .before .match .keys2))
+    (λ c κs. search needs)
+    (λ c.
+    let a = c .before .before .before .before .before .before .before .before .args in
+    let w = c .before .before .before .before .before .word in
+    let inside = c .before .before .before .inside .given in
+    c .no-number .ensures ∙ too-deep (a .text .now) (a .at) (w .result) (w .ensures) (inside .0 .0) (inside .1) (a .left) (c .before .if1 .taken))
+    (λ c. search needs)
+    (λ c κs. omega arith)
+    (λ c κs. search needs)
+    (λ c.
+    let a = c .before .before .before .before .before .before .before .before .before .args in
+    let w = c .before .before .before .before .before .before .word in
+    let inside = c .before .before .before .before .inside .given in
+    c .close-root .ensures ∙ ap (closed (a .text .now)) (c .before .nested .ensures)
+    ∙ deeper (a .text .now) (a .at) (w .result) (w .ensures) (inside .0 .0) (inside .1) (a .left) (omega arith))

@@ -1,0 +1,8 @@
+pub mod Places
+pub mod Numerals
+pub mod Limits
+pub mod Parts
+pub mod Depth
+pub mod Only
+pub mod Cases
+pub mod Significant

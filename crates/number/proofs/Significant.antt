@@ -1,0 +1,103 @@
+-- The limit on m in document 01's words: without its leading zeros m has at most n digits exactly if it is below 10^n. Assumes nothing.
+use mathlib.Core.Path.{_≡_, refl}
+use mathlib.Core.Bool.{Bool, true, false, cond}
+use mathlib.Core.List.{List, [], _∷_, _++_}
+use mathlib.Core.Logic.{_↔_}
+use Prim.Native.Nat.{ℕ, zero, suc, _+_, _-_, _*_, _^_, _≤_, _<_}
+use native.Mathlib.Nat.{pow-succ', pow-le-pow-right, le-trans, lt-of-lt-of-le, lt-of-not-le, not-le-of-lt, mul-assoc, one-mul, one-le-pow, mul-le-mul-right}
+use native.Mathlib.Omega.{arith}
+use borrow.Author.Tests.{eqb-false}
+use lib.Dec.{eqb, leb, leb→le, eqb→eq}
+use lib.ListN.{length, drop}
+use lib.Ieee.Fits.{and-l, and-r}
+use Rattle.text.specs.Text.{run}
+use Rattle.number.specs.Number.{isDigit, digitsAt, numeral, joined, partAt}
+
+-- digits without their leading zeros
+unfoldable pub significant : List ℕ → List ℕ
+significant [] = []
+significant (d ∷ ds) = cond (eqb d 48) (significant ds) (d ∷ ds)
+
+-- ---- digits and nothing else
+
+abbrev AllDigits : List ℕ → Type 0
+AllDigits [] = Unit {0}
+AllDigits (d ∷ ds) = (isDigit d ≡ true) × AllDigits ds
+
+picked : (t : Bool) (b : ℕ) (l : List ℕ) → isDigit b ≡ t → AllDigits l → AllDigits (cond t (b ∷ l) [])
+picked true b l e h = (e, h)
+picked false b l e h = tt
+
+run-digits : (s : List ℕ) → AllDigits (run isDigit s)
+run-digits [] = tt
+run-digits (b ∷ bs) = picked (isDigit b) b (run isDigit bs) refl (run-digits bs)
+
+both-digits : (a b : List ℕ) → AllDigits a → AllDigits b → AllDigits (a ++ b)
+both-digits [] b h k = k
+both-digits (d ∷ ds) b h k = (h .0, both-digits ds b (h .1) k)
+
+-- ---- between which powers of ten a number lies
+
+least : (d : ℕ) → isDigit d ≡ true → 48 ≤ d
+least d e = leb→le 48 d (and-l (leb 48 d) (leb d 57) (rw e tt))
+
+most : (d : ℕ) → isDigit d ≡ true → d ≤ 57
+most d e = leb→le d 57 (and-r (leb 48 d) (leb d 57) (rw e tt))
+
+-- a digit that is not 0
+other : (d : ℕ) → isDigit d ≡ true → eqb d 48 ≡ false → 48 < d
+other d e f = omega (arith, least d e, eqb-false d 48 f)
+
+shift : (m k : ℕ) → m * 10 ^ suc k ≡ m * 10 * 10 ^ k
+shift m k = rw (pow-succ' 10 k, mul-assoc)
+
+at-least : (m : ℕ) (l : List ℕ) → m * 10 ^ length l ≤ numeral m l
+unfolding numeral
+at-least m [] = omega arith
+at-least m (d ∷ ds) =
+    rw (shift m (length ds)) (le-trans (mul-le-mul-right (10 ^ length ds) (omega arith)) (at-least (m * 10 + (d - 48)) ds))
+
+below : (m : ℕ) (l : List ℕ) → AllDigits l → numeral m l < (m + 1) * 10 ^ length l
+unfolding numeral
+below m [] h = omega arith
+below m (d ∷ ds) h =
+    rw (shift (m + 1) (length ds))
+    (lt-of-lt-of-le (below (m * 10 + (d - 48)) ds (h .1)) (mul-le-mul-right (10 ^ length ds) (omega (arith, most d (h .0)))))
+
+-- ---- leading zeros
+
+module _ (d : ℕ) (ds : List ℕ) (n : ℕ) (h : AllDigits (d ∷ ds)) where
+  -- at most n digits write a number below 10^n
+  short-below : suc (length ds) ≤ n → numeral 0 (d ∷ ds) < 10 ^ n
+  unfolding numeral
+  short-below l =
+      let one-digit : 0 * 10 + (d - 48) + 1 ≤ 10 = omega (arith, most d (h .0)) in
+      lt-of-lt-of-le (below (0 * 10 + (d - 48)) ds (h .1))
+      (le-trans (mul-le-mul-right (10 ^ length ds) one-digit) (rw (← pow-succ' 10 (length ds)) (pow-le-pow-right (omega arith) l)))
+
+  -- and where the first is no zero, more than n digits do not
+  long-above : 48 < d → n ≤ length ds → 10 ^ n ≤ numeral 0 (d ∷ ds)
+  unfolding numeral
+  long-above z l =
+      let some : 1 ≤ 0 * 10 + (d - 48) = omega arith in
+      le-trans (pow-le-pow-right (omega arith) l)
+      (le-trans (rw one-mul at (mul-le-mul-right (10 ^ length ds) some)) (at-least (0 * 10 + (d - 48)) ds))
+
+-- m without its leading zeros has at most n digits exactly if it is below 10^n
+few : (l : List ℕ) (n : ℕ) → AllDigits l → (length (significant l) ≤ n) ↔ (numeral 0 l < 10 ^ n)
+unfolding significant numeral
+few [] n h = ((λ _. one-le-pow n 10 (omega arith)), (λ _. omega arith))
+few (d ∷ ds) n h = first (eqb d 48) refl (few ds n (h .1))
+  where
+    first : (t : Bool) → eqb d 48 ≡ t → ((length (significant ds) ≤ n) ↔ (numeral 0 ds < 10 ^ n))
+        → (length (cond t (significant ds) (d ∷ ds)) ≤ n) ↔ (numeral 0 (d ∷ ds) < 10 ^ n)
+    first true e rest = let z : d ≡ 48 = eqb→eq d 48 (rw e tt) in rw z rest
+    first false e rest =
+        (short-below d ds n h, (λ l. lt-of-not-le (λ f. not-le-of-lt l (long-above d ds n h (other d (h .0) e) f))))
+
+-- the digits of a number, before and after its point
+pub few-digits : (s : List ℕ) (first n : ℕ) → (length (significant (joined s first)) ≤ n) ↔ (numeral 0 (joined s first) < 10 ^ n)
+unfolding joined
+few-digits s first n =
+    few (digitsAt s first ++ digitsAt s (partAt s first)) n
+    (both-digits (digitsAt s first) (digitsAt s (partAt s first)) (run-digits (drop first s)) (run-digits (drop (partAt s first) s)))

@@ -1,0 +1,9 @@
+pub mod Squares
+pub mod Nearest
+pub mod Pairs
+pub mod Scale
+pub mod Sizes
+pub mod Agree
+pub mod Only
+pub mod Value
+pub mod Cases

@@ -1,0 +1,39 @@
+-- `root::root_scaled` meets its contract: h is m, or twice m for an odd g, so that h * 2^52 is m * 2^s, and its root has 53 digits (`Scale.antt`). Assumes nothing.
+use borrow.Author.Needs.{needs}
+use mathlib.Core.Path.{_≡_, ap, _∙_}
+use Prim.Native.Nat.{_+_, _*_, _^_, _≤_, _<_, _%_}
+use native.Mathlib.Omega.{arith}
+use Rattle.root.specs.Function.{nearestRoot, places, scaledRoot}
+use Rattle.root.proofs.Scale.{Doubled, doubled, root-range}
+use Rattle.root.proofs.root_scaled.Statement.{statement}
+use Rattle.root.proofs.root_scaled.Tie as tie
+
+twice : (c : tie.Start) → Doubled (c .args .m) (c .args .g % 2) (c .args .m * (1 + c .args .g % 2))
+twice c = doubled (c .args .m) (c .args .g) (omega arith) (omega arith)
+
+rooted : (c : tie.After-root-core) → c .root-core .result ≡ nearestRoot (c .before .args .m * 2 ^ places (c .before .args .g))
+rooted c = c .root-core .ensures ∙ ap nearestRoot (twice (c .before) .value)
+
+range : (c : tie.After-root-core) → (2 ^ 52 ≤ c .root-core .result) × (c .root-core .result < 2 ^ 53)
+range c = rw (rooted c) (root-range (c .before .args .m) (c .before .args .g) (omega arith) (omega arith))
+
+mul-root-core : tie.Need-mul-root-core
+mul-root-core c = omega (arith, twice c)
+
+root-core-requires : tie.Need-root-core-requires
+root-core-requires c κs = omega (arith, twice c)
+
+sub-result : tie.Need-sub-result
+sub-result c = omega (arith, range c)
+
+add-result-2 : tie.Need-add-result-2
+add-result-2 c = omega (arith, range c)
+
+returns : tie.Need-returns
+unfolding scaledRoot
+returns c = rw (rooted c)
+
+pub root-scaled-spec : {M : Type 1} → statement M
+root-scaled-spec =
+    tie.close
+    (tie.spec (λ c. search needs) mul-root-core root-core-requires (λ c. search needs) (λ c. search needs) sub-result add-result-2 returns)

@@ -1,0 +1,5 @@
+pub mod Bits
+pub mod Root
+pub mod Function
+pub mod Promise
+pub mod Steps

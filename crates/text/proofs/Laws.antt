@@ -1,0 +1,77 @@
+-- The laws of what is read at a place: one byte more of a run or a word, and their ends; what is handed on. Assumes nothing.
+use mathlib.Core.Path.{_≡_, refl}
+use mathlib.Core.Bool.{Bool, true, false}
+use mathlib.Core.List.{List, [], _∷_}
+use mathlib.Core.Logic.{⊎-elim}
+use Prim.Native.Nat.{ℕ, _+_, _≤_, _<_}
+use native.Mathlib.Numerals.{add-one}
+use native.Mathlib.Nat.{lt-of-not-le}
+use native.Mathlib.Omega.{arith}
+use lib.ListN.{length, drop, getD, drop-of-length-le, List·getD-eq-default}
+use lib.Seq.{drop-cons}
+use borrow.Author.Tests.{eq-eqb, ne-eqb}
+use types.Run.{OneOf}
+use denote.Enum.Declared.{tagOf}
+use Rattle.text.specs.Text.{from, run, runTo, starts}
+use Rattle.text.specs.declared.Stand.{Stand}
+use Rattle.text.specs.declared.Stand.the-variants.{At, Nothing, Refused}
+use Rattle.text.proofs.Stand.{the-type}
+
+-- ---- the rail
+
+-- a stand that is no place is handed on
+pub handed {ℓ} : {X : Type ℓ} (stand : Stand) (rest : X) (read : ℕ → X) → OneOf (1 ∷ 2 ∷ []) (tagOf the-type stand) → rest ≡ from stand rest read
+handed (At n) rest read h = absurd (⊎-elim (λ (e : 0 ≡ 1). omega arith) (λ (e : 0 ≡ 2). omega arith) h)
+handed Nothing rest read h = refl
+handed (Refused number place) rest read h = refl
+
+-- ---- a byte by its place
+
+-- past the end stands 0
+pub past : (s : List ℕ) (i : ℕ) → length s ≤ i → getD s i 0 ≡ 0
+past s i h = List·getD-eq-default s 0 h
+
+-- a byte that is not 0 stands inside
+pub inside : (s : List ℕ) (i b : ℕ) → getD s i 0 ≡ b → 0 < b → i < length s
+inside s i b e p = lt-of-not-le (λ (h : length s ≤ i). omega (arith, past s i h))
+
+-- ---- a run
+module _ (p : ℕ → Bool) (s : List ℕ) (i : ℕ) where
+  pub run-more : i < length s → p (getD s i 0) ≡ true → run p (drop i s) ≡ getD s i 0 ∷ run p (drop (i + 1) s)
+  run-more h e = rw (add-one, drop-cons s i 0, e)
+
+  pub run-stop : i < length s → p (getD s i 0) ≡ false → run p (drop i s) ≡ []
+  run-stop h e = rw (drop-cons s i 0, e)
+
+  pub run-end : length s ≤ i → run p (drop i s) ≡ []
+  run-end h = rw (drop-of-length-le s h)
+
+  pub runTo-more : i < length s → p (getD s i 0) ≡ true → runTo p s i ≡ runTo p s (i + 1)
+  unfolding runTo
+  runTo-more h e = rw (run-more h e) (omega arith)
+
+  pub runTo-stop : i < length s → p (getD s i 0) ≡ false → runTo p s i ≡ i
+  unfolding runTo
+  runTo-stop h e = rw (run-stop h e) (omega arith)
+
+  pub runTo-end : length s ≤ i → runTo p s i ≡ i
+  unfolding runTo
+  runTo-end h = rw (run-end h) (omega arith)
+
+  pub runTo-ahead : i ≤ runTo p s i
+  unfolding runTo
+  runTo-ahead = omega arith
+
+-- ---- a word
+module _ (w s : List ℕ) (i p : ℕ) where
+  pub starts-more : i < length w → p < length s → getD s p 0 ≡ getD w i 0 → starts (drop i w) (drop p s) ≡ starts (drop (i + 1) w) (drop (p + 1) s)
+  starts-more hi hp e = rw (add-one i, add-one p, drop-cons w i 0, drop-cons s p 0, eq-eqb _ _ e)
+
+  pub starts-stop : i < length w → p < length s → (getD s p 0 ≡ getD w i 0 → ⊥) → starts (drop i w) (drop p s) ≡ false
+  starts-stop hi hp e = rw (drop-cons w i 0, drop-cons s p 0, ne-eqb _ _ e)
+
+  pub starts-short : i < length w → length s ≤ p → starts (drop i w) (drop p s) ≡ false
+  starts-short hi hp = rw (drop-cons w i 0, drop-of-length-le s hp)
+
+  pub starts-end : length w ≤ i → starts (drop i w) (drop p s) ≡ true
+  starts-end h = rw (drop-of-length-le w h)

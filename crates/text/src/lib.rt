@@ -1,0 +1,185 @@
+// Where reading stands in a text, and the smallest things that are read there: spaces, labels, words, bytes, new lines.
+// Each reader goes on from a place, and hands on a stand that is no place.
+ghost use mathlib.Core.Path.{_≡_};
+ghost use lib.ListN.{getD};
+ghost use Rattle.text.specs.Text.{isSpace, isAlphanum, spacesTo, alphanumTo, wsOn, labelOn, suffixed, Joins, dottedOn, wordAt, wordOn, byteOn, newlineOn};
+
+// A place of the text; nothing read; or a refusal with its number and place.
+pub enum Stand {
+    At(usize),
+    Nothing,
+    Refused { number: u8, place: usize },
+}
+
+// A label by its first byte and its length, and where reading stands behind it.
+pub struct Label {
+    pub start: usize,
+    pub len: usize,
+    pub then: Stand,
+}
+
+// The byte at a place, and 0 past the end.
+pub fn byte_at(text: &[u8], at: usize) -> u8
+    ensures { λ r. ⌜ r ≡ getD (now (text .entry)) at 0 ⌝ }
+{
+    if at < text.len() { text[at] } else { 0 }
+}
+
+// A blank or a tab.
+fn is_space(b: u8) -> bool
+    ensures { λ r. ⌜ r ≡ isSpace b ⌝ }
+{
+    (b == b' ') | (b == b'\t')
+}
+
+// An ASCII letter or digit.
+fn is_alphanum(b: u8) -> bool
+    ensures { λ r. ⌜ r ≡ isAlphanum b ⌝ }
+{
+    ((b'a' <= b) & (b <= b'z')) | ((b'0' <= b) & (b <= b'9')) | ((b'A' <= b) & (b <= b'Z'))
+}
+
+// The place after the spaces at a place.
+fn spaces_to(text: &[u8], at: usize) -> usize
+    ensures { λ r. ⌜ r ≡ spacesTo (now (text .entry)) at ⌝ }
+{
+    let mut i = at;
+    while i < text.len() {
+        if is_space(text[i]) {
+            i += 1;
+        } else {
+            return i;
+        }
+    }
+    i
+}
+
+// The place after the letters and digits at a place.
+fn alphanum_to(text: &[u8], at: usize) -> usize
+    ensures { λ r. ⌜ r ≡ alphanumTo (now (text .entry)) at ⌝ }
+{
+    let mut i = at;
+    while i < text.len() {
+        if is_alphanum(text[i]) {
+            i += 1;
+        } else {
+            return i;
+        }
+    }
+    i
+}
+
+// Any count of spaces, none too.
+pub fn ws(text: &[u8], stand: Stand) -> Stand
+    ensures { λ r. ⌜ r ≡ wsOn (now (text .entry)) stand ⌝ }
+{
+    let Stand::At(at) = stand else {
+        return stand;
+    };
+    Stand::At(spaces_to(text, at))
+}
+
+// One or more letters and digits.
+pub fn parse_label(text: &[u8], stand: Stand) -> Label
+    ensures { λ r. ⌜ r ≡ labelOn (now (text .entry)) stand ⌝ }
+{
+    let Stand::At(at) = stand else {
+        return Label {
+            start: 0,
+            len: 0,
+            then: stand,
+        };
+    };
+    let next = alphanum_to(text, at);
+    if next <= at {
+        return Label {
+            start: 0,
+            len: 0,
+            then: Stand::Nothing,
+        };
+    }
+    Label {
+        start: at,
+        len: next - at,
+        then: Stand::At(next),
+    }
+}
+
+// The first label up to the end of the second, where there is a second.
+fn join(first: Label, second: Label) -> Label
+    requires { ⌜ Joins first second ⌝ }
+    ensures { λ r. ⌜ r ≡ suffixed first second ⌝ }
+{
+    let then = second.then;
+    let Stand::At(next) = then else {
+        return first;
+    };
+    let start = first.start;
+    Label {
+        start,
+        len: next - start,
+        then,
+    }
+}
+
+// A label, and with it a point and a second label where both stand there.
+pub fn parse_label_opt_suffix(text: &[u8], stand: Stand) -> Label
+    ensures { λ r. ⌜ r ≡ dottedOn (now (text .entry)) stand ⌝ }
+{
+    let first = parse_label(text, stand);
+    let then = first.then;
+    let dot = byte(text, then, b'.');
+    let second = parse_label(text, dot);
+    join(first, second)
+}
+
+// The place after a word at a place, where it stands there.
+fn word_at(text: &[u8], w: &[u8], at: usize) -> Stand
+    ensures { λ r. ⌜ r ≡ wordAt (now (text .entry)) (now (w .entry)) at ⌝ }
+{
+    let mut p = at;
+    let mut i = 0;
+    while i < w.len() {
+        if text.len() <= p {
+            return Stand::Nothing;
+        }
+        if text[p] != w[i] {
+            return Stand::Nothing;
+        }
+        p += 1;
+        i += 1;
+    }
+    Stand::At(p)
+}
+
+// The bytes of a word.
+pub fn word(text: &[u8], stand: Stand, w: &[u8]) -> Stand
+    ensures { λ r. ⌜ r ≡ wordOn (now (text .entry)) stand (now (w .entry)) ⌝ }
+{
+    let Stand::At(at) = stand else {
+        return stand;
+    };
+    word_at(text, w, at)
+}
+
+// One byte.
+pub fn byte(text: &[u8], stand: Stand, b: u8) -> Stand
+    ensures { λ r. ⌜ r ≡ byteOn (now (text .entry)) stand b ⌝ }
+{
+    let Stand::At(at) = stand else {
+        return stand;
+    };
+    if at < text.len() {
+        if text[at] == b {
+            return Stand::At(at + 1);
+        }
+    }
+    Stand::Nothing
+}
+
+// A new line: byte 10 and no other.
+pub fn newline(text: &[u8], stand: Stand) -> Stand
+    ensures { λ r. ⌜ r ≡ newlineOn (now (text .entry)) stand ⌝ }
+{
+    byte(text, stand, b'\n')
+}
