@@ -17,10 +17,10 @@ pub enum Carried {
 }
 
 // The first number with more than 15 digits.
-const LIMIT: u64 = 1_000_000_000_000_000;
+pub const LIMIT: u64 = 1_000_000_000_000_000;
 
 // k is from minus this to this.
-const POWER: u64 = 22;
+pub const POWER: u64 = 22;
 
 // 10^0 to 10^22, each of them exact.
 const POWERS: [f64; 23] = [

@@ -13,9 +13,6 @@ pub struct Number {
     pub then: Stand,
 }
 
-// Numbers of this size and more are told apart no more: they have over 15 digits.
-const LARGEST: u64 = 1_000_000_000_000_000;
-
 // Exponents of this size and more are told apart no more: no text has so many digits after a point that one of them is carried.
 const LONGEST: u64 = 9_223_372_036_854_775_830;
 
@@ -120,10 +117,10 @@ struct Mantissa {
 fn mantissa_at(text: &[u8], first: usize) -> Mantissa
     ensures { λ r. ⌜ Joined (now (text .entry)) first (r .m) (r .count) (r .end) (r .none) ⌝ }
 {
-    let whole = digits_at(text, first, 0, LARGEST);
+    let whole = digits_at(text, first, 0, decimal::LIMIT);
     let point = whole.next;
     let part = after_point(text, point);
-    let run = digits_at(text, part, whole.value, LARGEST);
+    let run = digits_at(text, part, whole.value, decimal::LIMIT);
     let end = run.next;
     Mantissa {
         m: run.value,
@@ -175,7 +172,7 @@ fn carry(m: u64, negative: bool, below: bool, size: u64, count: u64) -> Carried
     ensures { λ r. ⌜ r ≡ carriedBy m negative below size count ⌝ }
 {
     if below {
-        if 22 < size {
+        if decimal::POWER < size {
             return Carried::Outside;
         }
         return decimal::decimal(m, Scale::Over(size + count), negative);
