@@ -6,6 +6,8 @@ use Rattle.text.proofs.ws.Kinds as ws-kinds
 use Rattle.text.proofs.ws.Reads as ws
 use Rattle.text.proofs.parse_label.Kinds as parse-label-kinds
 use Rattle.text.proofs.parse_label.Reads as parse-label
+use Rattle.text.proofs.opt_suffix.Kinds as opt-suffix-kinds
+use Rattle.text.proofs.opt_suffix.Reads as opt-suffix
 use Rattle.text.proofs.parse_label_opt_suffix.Kinds as parse-label-opt-suffix-kinds
 use Rattle.text.proofs.parse_label_opt_suffix.Reads as parse-label-opt-suffix
 use Rattle.text.proofs.word.Kinds as word-kinds
@@ -23,6 +25,9 @@ ws-only κs a x y e f p q = by-equation p q
 
 pub parse-label-only : Determined 1 parse-label-kinds.ps parse-label-kinds.r parse-label.Post
 parse-label-only κs a x y e f p q = by-equation p q
+
+pub opt-suffix-only : Determined 1 opt-suffix-kinds.ps opt-suffix-kinds.r opt-suffix.Post
+opt-suffix-only κs a x y e f p q = by-equation p q
 
 pub parse-label-opt-suffix-only : Determined 1 parse-label-opt-suffix-kinds.ps parse-label-opt-suffix-kinds.r parse-label-opt-suffix.Post
 parse-label-opt-suffix-only κs a x y e f p q = by-equation p q

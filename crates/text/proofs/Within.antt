@@ -7,7 +7,7 @@ use native.Mathlib.Nat.{le-refl}
 use native.Mathlib.Omega.{arith}
 use lib.Dec.{leb, eqb, nleb→lt}
 use lib.ListN.{length, drop, length-drop}
-use Rattle.text.specs.Text.{from, run, runTo, starts, isSpace, isAlphanum, alphanumTo, noLabel, wordAt, labelAt, wsOn, wordOn, byteOn, labelOn, Joins}
+use Rattle.text.specs.Text.{from, run, runTo, starts, isSpace, isAlphanum, alphanumTo, noLabel, wordAt, labelAt, wsOn, wordOn, byteOn, labelOn}
 use Rattle.text.specs.declared.Stand.{Stand}
 use Rattle.text.specs.declared.Stand.the-variants.{At, Nothing, Refused}
 use Rattle.text.proofs.Laws.{runTo-ahead}
@@ -111,15 +111,3 @@ module _ (s : List ℕ) where
   start-within (At n) = start-decided (leb (alphanumTo s n) n) n (alphanumTo s n) (labelAt-within n)
   start-within Nothing = tt
   start-within (Refused number place) = tt
-
-  before-end : (p : ℕ) (stand : Stand) → Within s p stand → from stand (Unit {0}) (λ n. p ≤ n)
-  before-end p (At n) h = h .0
-  before-end p Nothing h = tt
-  before-end p (Refused number place) h = tt
-
-  -- a label's second part ends behind the label's first byte
-  pub joins : (stand : Stand) → Joins (labelOn s stand) (labelOn s (byteOn s (labelOn s stand .then) 46))
-  joins stand =
-      let first = labelOn s stand in
-      let dot = byteOn s (first .then) 46 in
-      before-end (first .start) (labelOn s dot .then) (label-within (first .start) dot (byte-within (first .start) 46 (first .then) (start-within stand)))

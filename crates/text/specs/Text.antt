@@ -1,6 +1,6 @@
 -- Where reading stands, and what is read at a place (document 01, module 2). A text is the list of its bytes, a place the
 -- count of the bytes before it. Past the end stands nothing, so each reading has a meaning at every place.
-use Prim.Native.Nat.{ℕ, _+_, _-_, _≤_}
+use Prim.Native.Nat.{ℕ, _+_, _-_}
 use mathlib.Core.Bool.{Bool, true, false, cond, _||_, _&&_}
 use mathlib.Core.List.{List, [], _∷_}
 use lib.Dec.{leb, eqb}
@@ -94,16 +94,14 @@ unfoldable pub labelOn : List ℕ → Stand → Label
 labelOn s stand = from stand (noLabel stand) (labelAt s)
 
 -- the first label up to the end of the second, where a second was read
-abbrev pub suffixed : Label → Label → Label
-suffixed first second =
+abbrev pub joined : Label → Label → Label
+joined first second =
     from (second .then) first (λ next. record { start = first .start; len = next - first .start; then = At next })
 
--- the second does not end before the first begins
-abbrev pub Joins : Label → Label → Type 0
-Joins first second = from (second .then) (Unit {0}) (λ next. first .start ≤ next)
+-- a label that was read, with a point and a second label behind it where both stand there
+unfoldable pub suffixedOn : List ℕ → Label → Label
+suffixedOn s first = joined first (labelOn s (byteOn s (first .then) 46))
 
 -- a label with an optional point and second label
-unfoldable pub dottedOn : List ℕ → Stand → Label
-dottedOn s stand =
-    let first = labelOn s stand in
-    suffixed first (labelOn s (byteOn s (first .then) 46))
+abbrev pub dottedOn : List ℕ → Stand → Label
+dottedOn s stand = suffixedOn s (labelOn s stand)

@@ -2,7 +2,7 @@
 // Each reader goes on from a place, and hands on a stand that is no place.
 ghost use mathlib.Core.Path.{_≡_};
 ghost use lib.ListN.{getD};
-ghost use Rattle.text.specs.Text.{isSpace, isAlphanum, spacesTo, alphanumTo, wsOn, labelOn, suffixed, Joins, dottedOn, wordAt, wordOn, byteOn, newlineOn};
+ghost use Rattle.text.specs.Text.{isSpace, isAlphanum, spacesTo, alphanumTo, wsOn, labelOn, joined, suffixedOn, dottedOn, wordAt, wordOn, byteOn, newlineOn};
 
 // A place of the text; nothing read; or a refusal with its number and place.
 pub enum Stand {
@@ -107,30 +107,33 @@ pub fn parse_label(text: &[u8], stand: Stand) -> Label
 
 // The first label up to the end of the second, where there is a second.
 fn join(first: Label, second: Label) -> Label
-    requires { ⌜ Joins first second ⌝ }
-    ensures { λ r. ⌜ r ≡ suffixed first second ⌝ }
+    ensures { λ r. ⌜ r ≡ joined first second ⌝ }
 {
     let then = second.then;
     let Stand::At(next) = then else {
         return first;
     };
     let start = first.start;
-    Label {
-        start,
-        len: next - start,
-        then,
-    }
+    let len = if start <= next { next - start } else { 0 };
+    Label { start, len, then }
 }
 
-// A label, and with it a point and a second label where both stand there.
-pub fn parse_label_opt_suffix(text: &[u8], stand: Stand) -> Label
-    ensures { λ r. ⌜ r ≡ dottedOn (now (text .entry)) stand ⌝ }
+// A label with a point and a second label behind it, where both stand there.
+pub fn opt_suffix(text: &[u8], first: Label) -> Label
+    ensures { λ r. ⌜ r ≡ suffixedOn (now (text .entry)) first ⌝ }
 {
-    let first = parse_label(text, stand);
     let then = first.then;
     let dot = byte(text, then, b'.');
     let second = parse_label(text, dot);
     join(first, second)
+}
+
+// A label with an optional point and second label.
+pub fn parse_label_opt_suffix(text: &[u8], stand: Stand) -> Label
+    ensures { λ r. ⌜ r ≡ dottedOn (now (text .entry)) stand ⌝ }
+{
+    let first = parse_label(text, stand);
+    opt_suffix(text, first)
 }
 
 // The place after a word at a place, where it stands there.

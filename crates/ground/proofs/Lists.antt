@@ -1,0 +1,36 @@
+-- Laws of lists that more than one crate cites. Assumes nothing.
+use mathlib.Core.Path.{_≡_, refl, sym}
+use mathlib.Core.Bool.{Bool, true, false, _&&_, true≢false}
+use mathlib.Core.List.{List, [], _∷_}
+use Prim.Native.Nat.{ℕ, zero, suc, _<_}
+use native.Mathlib.Nat.{not-suc-le-zero}
+use native.Mathlib.Omega.{arith}
+use lib.ListN.{length, getD}
+
+-- what stands past the end makes no difference inside
+pub getD-inside {ℓ} : {A : Type ℓ} (l : List A) (k : ℕ) (d e : A) → k < length l → getD l k d ≡ getD l k e
+getD-inside [] k d e h = absurd (not-suc-le-zero h)
+getD-inside (x ∷ l) zero d e h = refl
+getD-inside (x ∷ l) (suc k) d e h = getD-inside l k d e (omega arith)
+
+-- ---- both parts of a test that passes
+
+pub and-first : (a b : Bool) → (a && b) ≡ true → a ≡ true
+and-first true b e = refl
+and-first false b e = absurd (true≢false (sym e))
+
+pub and-second : (a b : Bool) → (a && b) ≡ true → b ≡ true
+and-second true b e = e
+and-second false b e = absurd (true≢false (sym e))
+
+-- ---- a test of every element, computed once over a table
+
+abbrev pub all {ℓ} : {A : Type ℓ} → (A → Bool) → List A → Bool
+all p [] = true
+all p (x ∷ xs) = p x && all p xs
+
+-- what passes over a whole list, and on what stands past its end, passes at each place
+pub all-at {ℓ} : {A : Type ℓ} (p : A → Bool) (l : List A) (d : A) → all p l ≡ true → p d ≡ true → (k : ℕ) → p (getD l k d) ≡ true
+all-at p [] d h e k = e
+all-at p (x ∷ l) d h e zero = and-first (p x) (all p l) h
+all-at p (x ∷ l) d h e (suc k) = all-at p l d (and-second (p x) (all p l) h) e k

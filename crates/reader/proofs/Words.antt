@@ -1,0 +1,83 @@
+-- Where a word cannot stand, its form reads nothing. Assumes nothing.
+use mathlib.Core.Path.{_≡_, refl, sym}
+use mathlib.Core.Bool.{Bool, true, false, cond, _&&_}
+use mathlib.Core.List.{List}
+use Prim.Native.Nat.{ℕ, _+_, _≤_, _<_}
+use native.Mathlib.Omega.{arith}
+use native.Mathlib.Decide.{decLe}
+use native.Mathlib.Nat.{lt-of-not-le}
+use borrow.Author.Tests.{eqb-true, eqb-false}
+use lib.Dec.{eqb}
+use lib.ListN.{length, getD, drop, length-take}
+use lib.Seq.{getD-take}
+use Rattle.text.specs.Text.{starts, wordAt, wordOn, wsOn, byteOn, labelOn}
+use Rattle.text.specs.declared.Stand.{Stand}
+use Rattle.text.specs.declared.Stand.the-variants.{At, Nothing}
+use Rattle.text.proofs.Laws.{starts-more, starts-stop, starts-short}
+use Rattle.number.specs.Number.{numberOn, exprOn}
+use Rattle.record.specs.Kinds.{kindAt, wordOf, begins, none, number, expression}
+use Rattle.reader.specs.declared.forms.Part.{Part}
+use Rattle.reader.specs.Forms.{noLine, aroundOn, eitherOn, declareOn, moreOn, angleOn, partOn, gapOn, keywordOn}
+
+-- ---- the first two bytes
+
+module _ (w s : List ℕ) (at : ℕ) (long : 2 ≤ length w) (inside : at < length s) where
+  second : (t : Bool) → eqb (getD w 1 0) (getD s (at + 1) 0) ≡ t → t ≡ false → getD s at 0 ≡ getD w 0 0 → starts w (drop at s) ≡ false
+  second t e f same =
+      rw (starts-more w s 0 at (omega arith) inside same)
+      (elim (decLe (length s) (at + 1)) [
+        | yes h ↦ starts-short w s 1 (at + 1) (omega arith) h
+        | no h ↦ starts-stop w s 1 (at + 1) (omega arith) (lt-of-not-le h) (λ g. eqb-false (getD w 1 0) (getD s (at + 1) 0) (rw f at e) (sym g))
+      ])
+
+  first : (t : Bool) → eqb (getD w 0 0) (getD s at 0) ≡ t → (t && eqb (getD w 1 0) (getD s (at + 1) 0)) ≡ false → starts w (drop at s) ≡ false
+  first true e f = second (eqb (getD w 1 0) (getD s (at + 1) 0)) refl f (sym (eqb-true (getD w 0 0) (getD s at 0) e))
+  first false e f = starts-stop w s 0 at (omega arith) inside (λ g. eqb-false (getD w 0 0) (getD s at 0) e (sym g))
+
+-- a word whose first two bytes are others does not stand there
+pub not-begun : (s : List ℕ) (at k : ℕ) → 2 ≤ length (wordOf k) → at < length s → begins (kindAt k) (getD s at 0) (getD s (at + 1) 0) ≡ false
+    → wordOn s (At at) (wordOf k) ≡ Nothing
+unfolding wordOn wordAt
+not-begun s at k l h e =
+    let n = kindAt k .len in
+    let w = kindAt k .word in
+    let m : 2 ≤ n = omega (arith, l, length-take n w) in
+    rw (first (wordOf k) s at l h (eqb (getD (wordOf k) 0 0) (getD s at 0)) refl (rw (getD-take n w 0 0 (omega arith), getD-take n w 1 0 (omega arith)) e))
+
+-- past the end no word stands
+pub past-end : (s w : List ℕ) (at : ℕ) → 2 ≤ length w → length s ≤ at → wordOn s (At at) w ≡ Nothing
+unfolding wordOn wordAt
+past-end s w at l h = rw (starts-short w s 0 at (omega arith) h)
+
+-- ---- nothing read is handed on to the end of a form
+
+module _ (s : List ℕ) where
+  more-nothing : (on : Bool) → moreOn s Nothing on .then ≡ Nothing
+  unfolding moreOn aroundOn wsOn byteOn labelOn
+  more-nothing true = refl
+  more-nothing false = refl
+
+  gap-nothing : (on : Bool) → gapOn s Nothing on ≡ Nothing
+  unfolding gapOn wsOn
+  gap-nothing true = refl
+  gap-nothing false = refl
+
+  picked : (a b c : Bool) (x y z w : Part) → x .then ≡ Nothing → y .then ≡ Nothing → z .then ≡ Nothing → w .then ≡ Nothing
+      → cond a x (cond b y (cond c z w)) .then ≡ Nothing
+  picked true b c x y z w e f g h = e
+  picked false true c x y z w e f g h = f
+  picked false false true x y z w e f g h = g
+  picked false false false x y z w e f g h = h
+
+  part-nothing : (sort : ℕ) → partOn s Nothing sort .then ≡ Nothing
+  unfolding partOn angleOn aroundOn eitherOn wsOn byteOn wordOn numberOn exprOn
+  part-nothing sort = picked (eqb sort none) (eqb sort number) (eqb sort expression) _ _ _ _ refl refl refl refl
+
+  module _ (stand : Stand) (k : ℕ) (e : wordOn s stand (wordOf k) ≡ Nothing) where
+    pub no-keyword : keywordOn s stand k ≡ noLine Nothing
+    unfolding keywordOn wsOn byteOn labelOn
+    no-keyword = rw (e, more-nothing, more-nothing, more-nothing, part-nothing, gap-nothing)
+
+    pub no-declaration : declareOn s stand k ≡ noLine Nothing
+    unfolding declareOn wsOn labelOn
+    no-declaration = rw e

@@ -1,0 +1,12 @@
+-- `reader::forms::assign_point` meets its contract: it is its definition, call by call. Assumes nothing.
+use borrow.Author.Needs.{needs}
+use Rattle.reader.specs.Forms.{assignOn}
+use Rattle.reader.proofs.forms.assign_point.Statement.{statement}
+use Rattle.reader.proofs.forms.assign_point.Tie as tie
+
+returns : tie.Need-returns
+unfolding assignOn
+returns c = rw (← c .before .before .before .before .opt-suffix .ensures, ← c .before .before .before .around .ensures, ← c .before .before .parse-point .ensures, ← c .before .one-label .ensures) (c .line-of .ensures)
+
+pub assign-point-spec : {M : Type 1} → statement M
+assign-point-spec = tie.close (tie.spec (λ c κs. search needs) (λ c κs. search needs) (λ c κs. search needs) (λ c κs. search needs) (λ c κs. search needs) returns)

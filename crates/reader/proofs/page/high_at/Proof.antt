@@ -1,0 +1,37 @@
+-- `reader::page::high_at` meets its contract: the low bytes from the start on end where those from `i` on end. Assumes nothing.
+use borrow.Author.Needs.{needs}
+use borrow.Author.Tests.{lt-ltb, le-ltb}
+use mathlib.Core.Path.{_≡_, refl, sym, _∙_}
+use Prim.Native.Nat.{_-_}
+use lib.Dec.{ltb}
+use lib.ListN.{length}
+use Rattle.text.specs.Text.{runTo}
+use Rattle.text.proofs.Laws.{runTo-more, runTo-stop, runTo-end}
+use Rattle.reader.specs.Page.{highAt}
+use Rattle.reader.proofs.page.high_at.Statement.{statement}
+use Rattle.reader.proofs.page.high_at.Tie as tie
+
+abbrev Inv-loop : tie.InvT-loop
+Inv-loop text i₀ i = highAt text ≡ runTo (λ b. ltb b 128) text i
+
+abbrev μ-loop : tie.MeasureT-loop
+μ-loop text i₀ i = length text - i
+
+loop-holds : tie.Need-loop-holds Inv-loop μ-loop
+loop-holds c = refl
+
+loop-again : tie.Need-loop-again Inv-loop μ-loop
+loop-again c =
+    let l = c .before .before .before .loop in
+    l .inv ∙ runTo-more (λ b. ltb b 128) _ (l .i) (search needs) (lt-ltb _ _ (c .if1 .taken))
+
+returns : tie.Need-returns Inv-loop μ-loop
+returns c =
+    let l = c .before .before .before .loop in
+    sym (l .inv ∙ runTo-stop (λ b. ltb b 128) _ (l .i) (search needs) (le-ltb _ _ (c .if1 .left)))
+
+returns-2 : tie.Need-returns-2 Inv-loop μ-loop
+returns-2 c = sym (c .before .loop .inv ∙ runTo-end (λ b. ltb b 128) _ _ (c .loop-test .left))
+
+pub high-at-spec : {M : Type 1} → statement M
+high-at-spec = tie.close (tie.spec Inv-loop μ-loop loop-holds (λ c. search needs) (λ c. search needs) (λ c. search needs) loop-again returns returns-2)

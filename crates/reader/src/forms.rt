@@ -1,0 +1,449 @@
+// The forms of a page's lines. Each reads where reading stands, and hands on a stand that is no place.
+ghost use mathlib.Core.Path.{_≡_};
+ghost use mathlib.Core.Bool.{false};
+ghost use Prim.Native.Nat.{_≤_};
+ghost use lib.ListN.{length, take};
+ghost use Rattle.text.specs.Text.{wordOn};
+ghost use Rattle.text.specs.declared.Stand.the-variants.{Nothing};
+ghost use Rattle.record.specs.Kinds.{wordOf};
+ghost use Rattle.reader.specs.Forms.{noLine, lineOf, labelled, aroundOn, eitherOn, componentOn, pairOn, declareOn, fixedOn, assignOn, moreOn, angleOn, plainPart, partOn, gapOn, keywordOn, order, firstOf, labelFormsOn, instructionOn, guessedOn, guessOn};
+use number::Number;
+use record::Record;
+use record::kinds;
+use record::kinds::Kind;
+use text::Label;
+use text::Stand;
+
+// A line: its record, whether it is a twin of two records, and where reading stands behind it.
+pub struct Line {
+    pub first: Record,
+    pub twin: bool,
+    pub then: Stand,
+}
+
+// One of two words: 1 for the first, 2 for the second.
+pub struct Side {
+    pub third: u8,
+    pub then: Stand,
+}
+
+// A point pair.
+pub struct Pair {
+    pub x: u64,
+    pub y: u64,
+    pub then: Stand,
+}
+
+// The number part of a form.
+pub struct Part {
+    pub bits: u64,
+    pub third: u8,
+    pub then: Stand,
+}
+
+// The keyword forms in the Rust's order.
+const ORDER: [u8; 18] = [
+    6,
+    11,
+    12,
+    13,
+    14,
+    5,
+    7,
+    8,
+    9,
+    10,
+    15,
+    16,
+    17,
+    23,
+    20,
+    21,
+    22,
+    19,
+];
+
+// No line: where reading stands instead.
+pub(crate) fn no_line(then: Stand) -> Line
+    ensures { λ r. ⌜ r ≡ noLine then ⌝ }
+{
+    Line {
+        first: Record {
+            kind: 0,
+            third: 0,
+            count: 0,
+            start0: 0,
+            len0: 0,
+            start1: 0,
+            len1: 0,
+            start2: 0,
+            len2: 0,
+            start3: 0,
+            len3: 0,
+            x: 0,
+            y: 0,
+        },
+        twin: false,
+        then,
+    }
+}
+
+// A line where its end was read.
+fn line_of(first: Record, twin: bool, then: Stand) -> Line
+    ensures { λ r. ⌜ r ≡ lineOf first twin then ⌝ }
+{
+    let Stand::At(_) = then else {
+        return no_line(then);
+    };
+    Line { first, twin, then }
+}
+
+// A record with one label.
+fn one_label(kind: u8, third: u8, l: Label, x: u64, y: u64) -> Record
+    ensures { λ r. ⌜ r ≡ labelled kind third l x y ⌝ }
+{
+    Record {
+        kind,
+        third,
+        count: 1,
+        start0: l.start,
+        len0: l.len,
+        start1: 0,
+        len1: 0,
+        start2: 0,
+        len2: 0,
+        start3: 0,
+        len3: 0,
+        x,
+        y,
+    }
+}
+
+// A byte, with spaces around it.
+fn around(text: &[u8], stand: Stand, b: u8) -> Stand
+    ensures { λ r. ⌜ r ≡ aroundOn (now (text .entry)) stand b ⌝ }
+{
+    let s = text::ws(text, stand);
+    let s = text::byte(text, s, b);
+    text::ws(text, s)
+}
+
+// One of two words.
+fn either(text: &[u8], stand: Stand, a: &[u8], b: &[u8]) -> Side
+    ensures { λ r. ⌜ r ≡ eitherOn (now (text .entry)) stand (now (a .entry)) (now (b .entry)) ⌝ }
+{
+    let first = text::word(text, stand, a);
+    let Stand::Nothing = first else {
+        return Side {
+            third: 1,
+            then: first,
+        };
+    };
+    Side {
+        third: 2,
+        then: text::word(text, stand, b),
+    }
+}
+
+// x or y.
+fn parse_component(text: &[u8], stand: Stand) -> Side
+    ensures { λ r. ⌜ r ≡ componentOn (now (text .entry)) stand ⌝ }
+{
+    either(text, stand, b"x", b"y")
+}
+
+// A point pair: two numbers in brackets.
+fn parse_point(text: &[u8], stand: Stand) -> Pair
+    ensures { λ r. ⌜ r ≡ pairOn (now (text .entry)) stand ⌝ }
+{
+    let s = text::byte(text, stand, b'(');
+    let s = text::ws(text, s);
+    let a = number::parse_number(text, s);
+    let s = a.then;
+    let s = text::byte(text, s, b',');
+    let s = text::ws(text, s);
+    let b = number::parse_number(text, s);
+    let s = b.then;
+    Pair {
+        x: a.bits,
+        y: b.bits,
+        then: text::byte(text, s, b')'),
+    }
+}
+
+// Whether a kind's word may stand there, by its first two bytes.
+fn may_stand(text: &[u8], stand: Stand, kind: u8) -> bool
+    requires { ⌜ 2 ≤ length (wordOf kind) ⌝ }
+    ensures { λ r. ⌜ (r ≡ false → wordOn (now (text .entry)) stand (wordOf kind) ≡ Nothing) ⌝ }
+{
+    let Stand::At(at) = stand else {
+        return true;
+    };
+    if text.len() <= at {
+        return false;
+    }
+    kinds::may_begin(kind, text[at], text::byte_at(text, at + 1))
+}
+
+// The word of a kind.
+fn keyword(text: &[u8], stand: Stand, k: Kind) -> Stand
+    requires { ⌜ k .len ≤ length (k .word) ⌝ }
+    ensures { λ r. ⌜ r ≡ wordOn (now (text .entry)) stand (take (k .len) (k .word)) ⌝ }
+{
+    let word = k.word;
+    let len = k.len;
+    text::word(text, stand, &word[..len])
+}
+
+// A declaration: a word and a label; the space between them may be missing.
+fn declare(text: &[u8], stand: Stand, kind: u8) -> Line
+    requires { ⌜ 2 ≤ length (wordOf kind) ⌝ }
+    ensures { λ r. ⌜ r ≡ declareOn (now (text .entry)) stand kind ⌝ }
+{
+    if !may_stand(text, stand, kind) {
+        return no_line(Stand::Nothing);
+    }
+    let s = keyword(text, stand, kinds::kind_of(kind));
+    let s = text::ws(text, s);
+    let l = text::parse_label(text, s);
+    let then = l.then;
+    line_of(one_label(kind, 0, l, 0, 0), false, then)
+}
+
+// What follows the label of a fixed component: a word, x or y, `=` and a number.
+fn fix_component(text: &[u8], l: Label, kind: u8, between: &[u8]) -> Line
+    ensures { λ r. ⌜ r ≡ fixedOn (now (text .entry)) l kind (now (between .entry)) ⌝ }
+{
+    let s = l.then;
+    let s = text::word(text, s, between);
+    let c = parse_component(text, s);
+    let s = c.then;
+    let s = around(text, s, b'=');
+    let n = number::parse_number(text, s);
+    let then = n.then;
+    line_of(one_label(kind, c.third, l, n.bits, 0), false, then)
+}
+
+// What follows the label of an assignment: a second part, `=` and a pair. It is two records, x then y.
+fn assign_point(text: &[u8], first: Label) -> Line
+    ensures { λ r. ⌜ r ≡ assignOn (now (text .entry)) first ⌝ }
+{
+    let l = text::opt_suffix(text, first);
+    let s = l.then;
+    let s = around(text, s, b'=');
+    let p = parse_point(text, s);
+    let then = p.then;
+    line_of(one_label(4, 1, l, p.x, p.y), true, then)
+}
+
+// One more label behind a comma, where there is one.
+fn more(text: &[u8], stand: Stand, on: bool) -> Label
+    ensures { λ r. ⌜ r ≡ moreOn (now (text .entry)) stand on ⌝ }
+{
+    if on {
+        let s = around(text, stand, b',');
+        return text::parse_label(text, s);
+    }
+    Label {
+        start: 0,
+        len: 0,
+        then: stand,
+    }
+}
+
+// A number, then `deg` or `rad`.
+fn parse_angle(text: &[u8], stand: Stand) -> Part
+    ensures { λ r. ⌜ r ≡ angleOn (now (text .entry)) stand ⌝ }
+{
+    let n = number::parse_number(text, stand);
+    let s = n.then;
+    let unit = either(text, s, b"deg", b"rad");
+    let then = unit.then;
+    Part {
+        bits: n.bits,
+        third: unit.third,
+        then,
+    }
+}
+
+// A number that stands alone in its place.
+fn plain_part(n: Number) -> Part
+    ensures { λ r. ⌜ r ≡ plainPart n ⌝ }
+{
+    let then = n.then;
+    Part {
+        bits: n.bits,
+        third: 0,
+        then,
+    }
+}
+
+// The number behind a comma, of a row's sort.
+fn number_part(text: &[u8], stand: Stand, sort: u8) -> Part
+    ensures { λ r. ⌜ r ≡ partOn (now (text .entry)) stand sort ⌝ }
+{
+    if sort == kinds::NONE {
+        return Part {
+            bits: 0,
+            third: 0,
+            then: stand,
+        };
+    }
+    let s = around(text, stand, b',');
+    if sort == kinds::NUMBER {
+        return plain_part(number::parse_number(text, s));
+    }
+    if sort == kinds::EXPRESSION {
+        return plain_part(number::parse_number_expr(text, s));
+    }
+    parse_angle(text, s)
+}
+
+// The spaces before the closing bracket, where a row allows them.
+fn gap(text: &[u8], stand: Stand, on: bool) -> Stand
+    ensures { λ r. ⌜ r ≡ gapOn (now (text .entry)) stand on ⌝ }
+{
+    if on {
+        return text::ws(text, stand);
+    }
+    stand
+}
+
+// A keyword form, by its row in the table.
+fn keyword_form(text: &[u8], stand: Stand, kind: u8) -> Line
+    ensures { λ r. ⌜ r ≡ keywordOn (now (text .entry)) stand kind ⌝ }
+{
+    let k = kinds::kind_of(kind);
+    let s = keyword(text, stand, k);
+    let s = text::ws(text, s);
+    let s = text::byte(text, s, b'(');
+    let s = text::ws(text, s);
+    let a = text::parse_label(text, s);
+    let s = a.then;
+    let b = more(text, s, 1 < k.labels);
+    let s = b.then;
+    let c = more(text, s, 2 < k.labels);
+    let s = c.then;
+    let d = more(text, s, 3 < k.labels);
+    let s = d.then;
+    let n = number_part(text, s, k.number);
+    let s = n.then;
+    let s = gap(text, s, k.gap);
+    let then = text::byte(text, s, b')');
+    let first = Record {
+        kind,
+        third: n.third,
+        count: k.labels,
+        start0: a.start,
+        len0: a.len,
+        start1: b.start,
+        len1: b.len,
+        start2: c.start,
+        len2: c.len,
+        start3: d.start,
+        len3: d.len,
+        x: n.bits,
+        y: 0,
+    };
+    line_of(first, false, then)
+}
+
+// A keyword form, where its word may stand there.
+fn try_keyword(text: &[u8], stand: Stand, kind: u8) -> Line
+    requires { ⌜ 2 ≤ length (wordOf kind) ⌝ }
+    ensures { λ r. ⌜ r ≡ keywordOn (now (text .entry)) stand kind ⌝ }
+{
+    if may_stand(text, stand, kind) {
+        return keyword_form(text, stand, kind);
+    }
+    no_line(Stand::Nothing)
+}
+
+// The first keyword form that reads.
+fn keyword_forms(text: &[u8], stand: Stand) -> Line
+    ensures { λ r. ⌜ r ≡ firstOf (now (text .entry)) stand order ⌝ }
+{
+    let mut i = 0;
+    while i < 18 {
+        let line = try_keyword(text, stand, ORDER[i]);
+        let then = line.then;
+        let Stand::Nothing = then else {
+            return line;
+        };
+        i += 1;
+    }
+    no_line(Stand::Nothing)
+}
+
+// The forms that begin with a label, and then those that begin with a keyword.
+fn label_forms(text: &[u8], stand: Stand) -> Line
+    ensures { λ r. ⌜ r ≡ labelFormsOn (now (text .entry)) stand ⌝ }
+{
+    let l = text::parse_label(text, stand);
+    let line = fix_component(text, l, 4, b".");
+    let then = line.then;
+    let Stand::Nothing = then else {
+        return line;
+    };
+    let line = fix_component(text, l, 18, b".center.");
+    let then = line.then;
+    let Stand::Nothing = then else {
+        return line;
+    };
+    let line = assign_point(text, l);
+    let then = line.then;
+    let Stand::Nothing = then else {
+        return line;
+    };
+    keyword_forms(text, stand)
+}
+
+// An instruction: spaces, then the first form that reads.
+pub(crate) fn parse_instruction(text: &[u8], stand: Stand) -> Line
+    ensures { λ r. ⌜ r ≡ instructionOn (now (text .entry)) stand ⌝ }
+{
+    let s = text::ws(text, stand);
+    let line = declare(text, s, 1);
+    let then = line.then;
+    let Stand::Nothing = then else {
+        return line;
+    };
+    let line = declare(text, s, 2);
+    let then = line.then;
+    let Stand::Nothing = then else {
+        return line;
+    };
+    let line = declare(text, s, 3);
+    let then = line.then;
+    let Stand::Nothing = then else {
+        return line;
+    };
+    label_forms(text, s)
+}
+
+// What follows the label of a guess: a point pair, else a number.
+fn guessed(text: &[u8], l: Label, stand: Stand) -> Line
+    ensures { λ r. ⌜ r ≡ guessedOn (now (text .entry)) l stand ⌝ }
+{
+    let p = parse_point(text, stand);
+    let then = p.then;
+    let Stand::Nothing = then else {
+        return line_of(one_label(24, 0, l, p.x, p.y), false, then);
+    };
+    let n = number::parse_number(text, stand);
+    let then = n.then;
+    line_of(one_label(25, 0, l, n.bits, 0), false, then)
+}
+
+// A guess: spaces, a label, spaces, `roughly`, spaces, and its numbers.
+pub(crate) fn parse_guess(text: &[u8], stand: Stand) -> Line
+    ensures { λ r. ⌜ r ≡ guessOn (now (text .entry)) stand ⌝ }
+{
+    let s = text::ws(text, stand);
+    let l = text::parse_label_opt_suffix(text, s);
+    let s = l.then;
+    let s = text::ws(text, s);
+    let s = text::word(text, s, b"roughly");
+    let s = text::ws(text, s);
+    guessed(text, l, s)
+}

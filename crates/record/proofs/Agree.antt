@@ -1,0 +1,153 @@
+-- The tests of a record say what document 01 says of it: each is put together along its statement. Assumes nothing.
+use mathlib.Core.Path.{_≡_, refl, sym, ap, _∙_}
+use mathlib.Core.Bool.{Bool, true, false, not, _&&_, _||_}
+use mathlib.Core.List.{List, []}
+use Prim.Native.Nat.{ℕ, zero, suc, _+_, _-_, _≤_, _<_}
+use native.Mathlib.Nat.{not-suc-le-zero}
+use native.Mathlib.Omega.{arith}
+use native.Mathlib.Decide.{decLt}
+use lib.Dec.{leb, ltb}
+use lib.ListN.{length, List·getD-eq-default}
+use borrow.Author.Tests.{ltb-true}
+use Rattle.refusal.specs.First.{EachBelow, allBelow}
+use Rattle.refusal.proofs.Says.{Says, refuted, says-once, says-so, says-and, says-unless, says-cond, says-if, says-iff, says-eq, says-le, says-lt, says-all}
+use Rattle.record.specs.declared.Record.{Record}
+use Rattle.record.specs.declared.kinds.Kind.{Kind}
+use Rattle.record.specs.Kinds.{kinds, kindAt, noKind, none, pair}
+use Rattle.record.specs.Record.{recordBytes, mark, firstGuess}
+use Rattle.record.specs.Decode.{byte, decode}
+use Rattle.record.specs.Entry.{Entry, noEntry, labelNo, startOf, lenOf, named, entryOf}
+use Rattle.record.specs.Sound.{longest, labelPlaces, guessEnd, guessZeros, Placed, Framed, Known, Sound, Good, spelledTest, spelledAll, placedTest, framedTest, fieldsTest, soundTest, goodTest, goodKind}
+use Rattle.record.proofs.Spelled.{says-spelled}
+use Rattle.record.proofs.UpTo.{length-up-to, getD-up-to}
+
+-- ---- the bytes
+
+-- a part that starts inside a text of n bytes ends there, by what is left of it
+pub inside-is : (start len n : ℕ) → start ≤ n → leb len (n - start) ≡ leb (start + len) n
+inside-is start len n h =
+    says-once (says-le len (n - start)) (says-iff (λ g. omega (arith, g, h)) (λ g. omega (arith, g, h)) (says-le (start + len) n))
+
+says-placed : (text : List ℕ) (r : Record) (q : ℕ) → Says (placedTest (startOf r q) (lenOf r q) (ltb q (r .count)) (length text)) (Placed text r q)
+says-placed text r q =
+    says-iff
+    (λ w. record { used = w .0; unused = λ h. w .1 (λ g. omega (arith, h, g)) })
+    (λ p. (p .used, λ f. p .unused (omega (arith, f))))
+    (says-cond (says-lt q (r .count)) (says-le (startOf r q + lenOf r q) (length text)) (says-and (says-eq (startOf r q) 0) (says-eq (lenOf r q) 0)))
+
+-- a label place that is used lies inside the text
+pub used-inside : (text : List ℕ) (r : Record) → EachBelow labelPlaces (Placed text r) → (q : ℕ) → q < labelPlaces → ltb q (r .count) ≡ true
+    → startOf r q + lenOf r q ≤ length text
+used-inside text r p q h e = p q h .used (ltb-true q (r .count) e)
+
+pub says-framed : (text b : List ℕ) → Says (framedTest (length text) b) (Framed text b)
+unfolding framedTest
+says-framed text b =
+    says-iff
+    (λ w. record { whole = w .0; marked = w .1 .0; few = w .1 .1 .0; placed = w .1 .1 .1 .0; ended = w .1 .1 .1 .1 })
+    (λ f. (f .whole, (f .marked, (f .few, (f .placed, f .ended)))))
+    (says-and (says-eq (length b) recordBytes)
+    (says-and (says-eq (byte b 0) mark)
+    (says-and (says-le (decode b .count) labelPlaces)
+    (says-and (says-all _ _ (says-placed text (decode b)) labelPlaces)
+    (says-if (says-le firstGuess (decode b .kind)) (says-all _ _ (λ k. says-eq (byte b (guessEnd + k)) 0) guessZeros))))))
+
+-- ---- the kind
+
+-- each kind of the table has labels: one computed test
+abbrev hasLabels : ℕ → Bool
+hasLabels k = not (ltb 0 k) || ltb 0 (kindAt k .labels)
+
+all-have : allBelow (length kinds) hasLabels ≡ true
+all-have = refl
+
+known-of : (k : ℕ) → 0 < kindAt k .labels → Known k
+known-of zero h = absurd (not-suc-le-zero h)
+known-of (suc k) h =
+    elim (decLt (suc k) (length kinds)) [
+      | yes i ↦ (omega arith, i)
+      | no f ↦ (let past : length kinds ≤ suc k = omega (arith, f) in
+          absurd (omega (arith, h, ap (λ (r : Kind). r .labels) (List·getD-eq-default kinds noKind past))))
+    ]
+
+pub says-known : (k : ℕ) → Says (ltb 0 (kindAt k .labels)) (Known k)
+says-known k =
+    record {
+      so = λ e. known-of k (ltb-true 0 (kindAt k .labels) e);
+      back = λ h. says-if (says-lt 0 k) says-so .so (says-all hasLabels _ (λ j. says-so) (length kinds) .so all-have k (h .1)) (h .0);
+    }
+
+-- ---- what the bytes say
+
+pub says-sound : (e : Entry) → Says (soundTest e) (Sound e)
+unfolding soundTest
+says-sound e =
+    let k = kindAt (e .kind) in
+    says-iff
+    (λ w. record { known = w .0 .0; third = w .0 .1 .0; count = w .0 .1 .1 .0; spelled = w .1; no-x = w .0 .1 .1 .1 .0; no-y = w .0 .1 .1 .1 .1 })
+    (λ s. ((s .known, (s .third, (s .count, (s .no-x, s .no-y)))), s .spelled))
+    (says-and
+    (says-and (says-known (e .kind))
+    (says-and (says-and (says-le (e .third) (k .thirds)) (says-if (says-lt 0 (k .thirds)) (says-lt 0 (e .third))))
+    (says-and (says-eq (length (e .labels)) (k .labels))
+    (says-and (says-if (says-eq (k .number) none) (says-eq (e .x) 0)) (says-unless (says-eq (k .number) pair) (says-eq (e .y) 0))))))
+    (says-all _ _ (λ q. says-spelled (labelNo e q) (k .dotted)) (length (e .labels))))
+
+pub says-good : (text b : List ℕ) → Says (goodTest text b) (Good text b)
+unfolding goodTest
+says-good text b =
+    says-iff
+    (λ w. record { short = w .0; framed = w .1 .0; sound = w .1 .1 })
+    (λ g. (g .short, (g .framed, g .sound)))
+    (says-and (says-le (length text) longest) (says-and (says-framed text b) (says-sound (entryOf text (decode b)))))
+
+-- bytes that are no record are not sound
+pub none-unsound : soundTest noEntry ≡ false
+unfolding soundTest
+none-unsound = refl
+
+-- ---- a sound entry by its record's fields
+
+module _ (text : List ℕ) (r : Record) (few : r .count ≤ labelPlaces) where
+  count-is : length (entryOf text r .labels) ≡ r .count
+  unfolding entryOf
+  count-is = length-up-to (r .count) (named text r)
+
+  label-is : (q : ℕ) → q < r .count → labelNo (entryOf text r) q ≡ named text r q
+  unfolding entryOf
+  label-is q h = getD-up-to (r .count) (named text r) q [] h
+
+  -- the labels that are there, of all label places
+  spelled-is : (dotted : Bool) → allBelow (r .count) (λ q. spelledTest dotted (labelNo (entryOf text r) q)) ≡ spelledAll text r dotted
+  spelled-is dotted =
+      says-once
+      (says-all _ _ (λ q. says-so) (r .count))
+      (says-iff
+      (λ w q h. ap (spelledTest dotted) (label-is q h) ∙ w q (omega (arith, h, few)) h)
+      (λ w q i h. sym (ap (spelledTest dotted) (label-is q h)) ∙ w q h)
+      (says-all _ _ (λ q. says-if (says-lt q (r .count)) says-so) labelPlaces))
+
+  pub sound-is :
+      soundTest (entryOf text r)
+      ≡ fieldsTest (kindAt (r .kind)) (r .third) (r .count) (r .x) (r .y) && spelledAll text r (kindAt (r .kind) .dotted)
+  unfolding soundTest entryOf
+  sound-is = rw (count-is, spelled-is (kindAt (r .kind) .dotted)) refl
+
+-- a framed record is good exactly if its fields are as its kind allows and its labels are spelled as labels
+module _ (text b : List ℕ) (short : length text ≤ longest) (f : Framed text b) (r : Record) (er : r ≡ decode b) (k : Kind) (ek : k ≡ kindAt (r .kind)) where
+  pub says-fields : (fields labels : Bool) → fields ≡ fieldsTest k (r .third) (r .count) (r .x) (r .y) → labels ≡ spelledAll text r (k .dotted) → Says (fields && labels) (Good text b)
+  says-fields fields labels ef el =
+      let few : r .count ≤ labelPlaces = rw er (f .few) in
+      let e : fields && labels ≡ soundTest (entryOf text (decode b)) = rw (ef, el, ek, ← er) (sym (sound-is text r few)) in
+      rw e (says-iff (λ s. record { short = short; framed = f; sound = s }) (λ g. g .sound) (says-sound (entryOf text (decode b))))
+
+-- ---- the kind of a good record
+
+module _ (text b : List ℕ) where
+  pub kind-of-bad : (Good text b → ⊥) → 0 ≡ goodKind text b
+  unfolding goodKind
+  kind-of-bad f = rw (refuted (says-good text b) f) refl
+
+  pub kind-of-good : Good text b → decode b .kind ≡ goodKind text b
+  unfolding goodKind
+  kind-of-good g = rw (says-good text b .back g) refl

@@ -1,0 +1,114 @@
+-- Lists of records with what is told of them, and what records answer that are asked: one claim, which the definitions compute.
+-- Assumes nothing.
+use mathlib.Core.Path.{_≡_, refl}
+use mathlib.Core.List.{List, [], _∷_, _++_}
+use Prim.Native.Nat.{ℕ}
+use lib.Ieee.{binary64, ofBits}
+use Rattle.ground.specs.Words.{bytes}
+use Rattle.refusal.specs.First.{lowest}
+use Rattle.text.specs.Text.{runTo, wordAt, byteOn, labelAt, labelOn, suffixedOn}
+use Rattle.record.specs.declared.Record.{Record}
+use Rattle.record.specs.declared.formed.Formed.{Formed}
+use Rattle.record.specs.declared.formed.Formed.the-variants.{WellFormed, Refused}
+use Rattle.record.specs.declared.ask.Asked.{Asked}
+use Rattle.record.specs.declared.ask.Asked.the-variants as asked
+use Rattle.record.specs.declared.ask.Angle.the-variants.{Degrees, Radians}
+use Rattle.record.specs.Record.{encode, encodeAll}
+use Rattle.record.specs.Decode.{decode}
+use Rattle.record.specs.Entry.{Label, entryOf}
+use Rattle.record.specs.Sound.{spelledTest, framedTest, soundTest, goodTest}
+use Rattle.record.specs.Formed.{entry, entries, malformedTest, formedOf}
+use Rattle.record.specs.Ask.{labelOf, angleOf}
+
+-- ---- a text and records over it
+
+abbrev text : List ℕ
+text = bytes "p cc.center a.b.c"
+
+-- a record with one label
+abbrev one : ℕ → ℕ → ℕ → ℕ → ℕ → ℕ → Record
+one kind third start len x y =
+    record { kind = kind; third = third; count = 1; start0 = start; len0 = len; start1 = 0; len1 = 0; start2 = 0; len2 = 0; start3 = 0; len3 = 0; x = x; y = y }
+
+-- `point p`, and a guess of p
+abbrev point : Record
+point = one 1 0 0 1 0 0
+
+abbrev guess : Record
+guess = one 24 0 0 1 5 7
+
+-- an angle over p, cc, p and p
+abbrev angle : ℕ → Record
+angle third =
+    record { kind = 10; third = third; count = 4; start0 = 0; len0 = 1; start1 = 2; len1 = 2; start2 = 0; len2 = 1; start3 = 0; len3 = 1; x = 7; y = 0 }
+
+-- ---- lists
+
+-- what is told of records with some bytes behind them
+abbrev told : List Record → List ℕ → Formed
+told rs more = formedOf (entries text (encodeAll rs ++ more))
+
+abbrev answers : List Formed
+answers =
+    told (point ∷ guess ∷ []) []
+    -- a dotted label in a guess, in a declaration, and with two points
+    ∷ told (point ∷ one 24 0 2 9 5 7 ∷ []) []
+    ∷ told (one 1 0 2 9 0 0 ∷ guess ∷ []) []
+    ∷ told (point ∷ one 24 0 12 5 5 7 ∷ []) []
+    -- a label that ends outside the text, and an empty one
+    ∷ told (point ∷ one 24 0 16 2 5 7 ∷ []) []
+    ∷ told (point ∷ one 24 0 0 0 5 7 ∷ []) []
+    -- third bytes: deg, one past rad, and one where there is none
+    ∷ told (angle 1 ∷ guess ∷ []) []
+    ∷ told (angle 3 ∷ guess ∷ []) []
+    ∷ told (one 1 1 0 1 0 0 ∷ guess ∷ []) []
+    -- numbers: x of a declaration, y of a scalar guess
+    ∷ told (one 1 0 0 1 9 0 ∷ guess ∷ []) []
+    ∷ told (point ∷ one 25 0 0 1 9 7 ∷ []) []
+    -- no such kind
+    ∷ told (point ∷ one 26 0 0 1 0 0 ∷ []) []
+    -- no record, a guess first, no guess, an instruction after a guess, a piece at the end
+    ∷ told [] []
+    ∷ told (guess ∷ []) []
+    ∷ told (point ∷ point ∷ []) []
+    ∷ told (point ∷ guess ∷ point ∷ []) []
+    ∷ told (point ∷ guess ∷ []) (69 ∷ [])
+    ∷ []
+
+abbrev expected : List Formed
+expected =
+    WellFormed
+    ∷ WellFormed
+    ∷ Refused 30 0
+    ∷ Refused 30 1
+    ∷ Refused 30 1
+    ∷ Refused 30 1
+    ∷ WellFormed
+    ∷ Refused 30 0
+    ∷ Refused 30 0
+    ∷ Refused 30 0
+    ∷ Refused 30 1
+    ∷ Refused 30 1
+    ∷ Refused 30 0
+    ∷ Refused 30 0
+    ∷ Refused 30 2
+    ∷ Refused 30 2
+    ∷ Refused 30 2
+    ∷ []
+
+-- ---- what is asked
+
+abbrev labels : List Label
+labels = labelOf text (encode (angle 1)) 1 ∷ labelOf text (encode (one 24 0 2 9 5 7)) 0 ∷ labelOf text (encode point) 1 ∷ labelOf text [] 0 ∷ []
+
+abbrev angles : List Asked
+angles = angleOf text (encode (angle 1)) ∷ angleOf text (encode (angle 2)) ∷ angleOf text (encode point) ∷ []
+
+-- ---- the claim
+
+pub examples :
+    (answers ≡ expected)
+    × (labels ≡ bytes "cc" ∷ bytes "cc.center" ∷ [] ∷ [] ∷ [])
+    × (angles ≡ asked.Angle (Degrees (ofBits binary64 7)) ∷ asked.Angle (Radians (ofBits binary64 7)) ∷ asked.Refused 30 0 ∷ [])
+unfolding encode encodeAll decode entryOf runTo wordAt byteOn labelAt labelOn suffixedOn spelledTest framedTest soundTest goodTest entry entries malformedTest lowest formedOf labelOf angleOf
+examples = (refl, refl, refl)

@@ -1,0 +1,12 @@
+pub mod Back
+pub mod UpTo
+pub mod Spelled
+pub mod Agree
+pub mod Entries
+pub mod Passed
+pub mod Asked
+pub mod Told
+pub mod WellFormed
+pub mod Written
+pub mod Only
+pub mod Examples

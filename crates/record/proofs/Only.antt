@@ -1,0 +1,44 @@
+-- The promise of each public function, as its source states it, determines the answer: each is an equation. Of a label, which is a
+-- part of the lent text, it determines the bytes. Assumes nothing.
+use mathlib.Core.Path.{_≡_}
+use contract.Lifetimes.{Lfts}
+use borrow.Fn.Kinds.{Dens, resT, endedOf}
+use denote.Triple.Clauses.{AtExit}
+use denote.Ref.{now}
+use Rattle.ground.proofs.Determined.{Determined, by-equation}
+use Rattle.record.proofs.encode_record.Kinds as encode-record-kinds
+use Rattle.record.proofs.encode_record.Reads as encode-record
+use Rattle.record.proofs.kinds.kind_of.Kinds as kind-of-kinds
+use Rattle.record.proofs.kinds.kind_of.Reads as kind-of
+use Rattle.record.proofs.kinds.may_begin.Kinds as may-begin-kinds
+use Rattle.record.proofs.kinds.may_begin.Reads as may-begin
+use Rattle.record.proofs.decode.decode_record.Kinds as decode-record-kinds
+use Rattle.record.proofs.decode.decode_record.Reads as decode-record
+use Rattle.record.proofs.formed.well_formed.Kinds as well-formed-kinds
+use Rattle.record.proofs.formed.well_formed.Reads as well-formed
+use Rattle.record.proofs.ask.label.Kinds as label-kinds
+use Rattle.record.proofs.ask.label.Reads as label
+use Rattle.record.proofs.ask.angle_of.Kinds as angle-of-kinds
+use Rattle.record.proofs.ask.angle_of.Reads as angle-of
+
+pub encode-record-only : Determined 0 encode-record-kinds.ps encode-record-kinds.r encode-record.Post
+encode-record-only κs a x y e f p q = by-equation p q
+
+pub kind-of-only : Determined 0 kind-of-kinds.ps kind-of-kinds.r kind-of.Post
+kind-of-only κs a x y e f p q = by-equation p q
+
+pub may-begin-only : Determined 0 may-begin-kinds.ps may-begin-kinds.r may-begin.Post
+may-begin-only κs a x y e f p q = by-equation p q
+
+pub decode-record-only : Determined 1 decode-record-kinds.ps decode-record-kinds.r decode-record.Post
+decode-record-only κs a x y e f p q = by-equation p q
+
+pub well-formed-only : Determined 2 well-formed-kinds.ps well-formed-kinds.r well-formed.Post
+well-formed-only κs a x y e f p q = by-equation p q
+
+pub angle-of-only : Determined 2 angle-of-kinds.ps angle-of-kinds.r angle-of.Post
+angle-of-only κs a x y e f p q = by-equation p q
+
+pub label-only : (κs : Lfts 2) (a : Dens κs label-kinds.ps) (x y : resT label-kinds.r κs .Denot)
+    (e f : AtExit (endedOf 2 label-kinds.ps label-kinds.r) κs) → label.Post κs a x e → label.Post κs a y f → now x ≡ now y
+label-only κs a x y e f p q = by-equation p q

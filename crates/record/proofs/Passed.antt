@@ -1,0 +1,92 @@
+-- The loop over the records of a list: no place passed is at fault, and it is known whether a guess was passed. Assumes nothing.
+use mathlib.Core.Path.{_≡_, refl, sym, ap, _∙_}
+use mathlib.Core.Logic.{⊎-elim}
+use mathlib.Core.Bool.{Bool, true, false, not, _||_, true≢false}
+use mathlib.Core.List.{List}
+use Prim.Native.Nat.{ℕ, suc, _+_, _%_, _≤_, _<_}
+use native.Mathlib.Nat.{not-suc-le-zero}
+use native.Mathlib.Omega.{arith}
+use native.Mathlib.Numerals.{add-one}
+use lib.Dec.{eqb}
+use lib.ListN.{length}
+use borrow.Author.Count.{below-more}
+use borrow.Author.Tests.{eqb-true, eqb-false}
+use Rattle.refusal.specs.First.{EachBelow}
+use Rattle.refusal.proofs.Says.{stable, below-suc}
+use Rattle.record.specs.declared.formed.Formed.the-variants as formed
+use Rattle.record.specs.Record.{recordBytes}
+use Rattle.record.specs.Decode.{isGuess, countOf, recordOf}
+use Rattle.record.specs.Entry.{Entry, noEntry, entryAt}
+use Rattle.record.specs.Sound.{longest, Good, goodKind}
+use Rattle.record.specs.Formed.{most, malformed, entries, anyGuess, faultTest, misplaced, malformedTest, formedOf}
+use Rattle.record.proofs.Agree.{says-good, none-unsound, kind-of-bad}
+use Rattle.record.proofs.Entries.{entry-kind, misplaced-is, told-at, none-told, inside-is, last-is, entry-at, whole-length, piece-length, piece-none, count-le}
+
+-- what holds before place i
+pub record Passed (es : List Entry) (i : ℕ) (guessed : Bool) : Type 0 where
+  pub each : EachBelow i (λ j. malformedTest es j ≡ false)
+  pub seen : guessed ≡ anyGuess es i
+
+pub start : (es : List Entry) → Passed es 0 false
+start es = record { each = λ j h. absurd (not-suc-le-zero h); seen = refl }
+
+-- a kind that is not 0 is a good record's
+good-of : (text b : List ℕ) (i : ℕ) (guessed : Bool) → misplaced (goodKind text b) i guessed ≡ false → Good text b
+good-of text b i guessed e =
+    stable (says-good text b) (λ f. true≢false (sym (ap (λ (k : ℕ). misplaced k i guessed) (sym (kind-of-bad text b f))) ∙ e))
+
+module _ (text bs : List ℕ) (short : length text ≤ longest) (few : countOf bs ≤ most) (i : ℕ) (guessed : Bool) (p : Passed (entries text bs) i guessed) where
+  module _ (h : i < countOf bs) (kind : ℕ) (k : kind ≡ goodKind text (recordOf bs i)) where
+    -- the test of the place is that of the kind
+    here-is : malformedTest (entries text bs) i ≡ misplaced kind i guessed
+    here-is =
+        inside-is (entries text bs) i (omega (arith, count-le text bs short few, h))
+        ∙ ap (λ (e : Entry). faultTest e (eqb i 0) (anyGuess (entries text bs) i)) (entry-at text bs short few i h)
+        ∙ sym (misplaced-is text (recordOf bs i) short i (anyGuess (entries text bs) i))
+        ∙ rw (k, p .seen) refl
+
+    pub fault : misplaced kind i guessed ≡ true → formed.Refused malformed i ≡ formedOf (entries text bs)
+    fault e = told-at (entries text bs) i (omega (arith, count-le text bs short few, h)) (here-is ∙ e) (p .each)
+
+    pub more : misplaced kind i guessed ≡ false → Passed (entries text bs) (i + 1) (guessed || isGuess kind)
+    more e =
+        let g : Good text (recordOf bs i) = good-of text (recordOf bs i) i guessed (rw k at e) in
+        let n : entryAt (entries text bs) i .kind ≡ kind = ap (λ (e : Entry). e .kind) (entry-at text bs short few i h) ∙ entry-kind text (recordOf bs i) g ∙ sym k in
+        record { each = below-more _ _ (p .each) (here-is ∙ e); seen = rw (add-one, n, p .seen) refl }
+
+  -- behind the last record: a piece of a record, or a guess that is due
+  module _ (n : i ≡ countOf bs) where
+    whole-end : length bs % recordBytes ≡ 0 → i ≡ length (entries text bs)
+    whole-end w = n ∙ sym (whole-length text bs short few w)
+
+    end-whole : length bs % recordBytes ≡ 0 → malformedTest (entries text bs) i ≡ not guessed
+    end-whole w =
+        let l = whole-end w in
+        ap (malformedTest (entries text bs)) l ∙ last-is (entries text bs) ∙ ap not (sym (p .seen ∙ ap (anyGuess (entries text bs)) l))
+
+    end-piece : (length bs % recordBytes ≡ 0 → ⊥) → malformedTest (entries text bs) i ≡ true
+    end-piece f =
+        let e : entryAt (entries text bs) i ≡ noEntry = ap (entryAt (entries text bs)) n ∙ piece-none text bs short few f in
+        inside-is (entries text bs) i (omega (arith, n, piece-length text bs short few f)) ∙ rw (e, none-unsound) refl
+
+    end-is : malformedTest (entries text bs) i ≡ not (eqb (length bs % recordBytes) 0) || not guessed
+    end-is = go (eqb (length bs % recordBytes) 0) refl
+      where
+        go : (w : Bool) → eqb (length bs % recordBytes) 0 ≡ w → malformedTest (entries text bs) i ≡ not w || not guessed
+        go true e = end-whole (eqb-true (length bs % recordBytes) 0 e)
+        go false e = end-piece (eqb-false (length bs % recordBytes) 0 e)
+
+    pub end-fault : (not (eqb (length bs % recordBytes) 0) || not guessed) ≡ true → formed.Refused malformed (countOf bs) ≡ formedOf (entries text bs)
+    end-fault e = ap (formed.Refused malformed) (sym n) ∙ told-at (entries text bs) i (omega (arith, count-le text bs short few, n)) (end-is ∙ e) (p .each)
+
+    pub end-good : (not (eqb (length bs % recordBytes) 0) || not guessed) ≡ false → formed.WellFormed ≡ formedOf (entries text bs)
+    end-good e = none-told (entries text bs) (go (eqb (length bs % recordBytes) 0) refl e)
+      where
+        go : (w : Bool) → eqb (length bs % recordBytes) 0 ≡ w → (not w || not guessed) ≡ false → EachBelow (suc (length (entries text bs))) (λ j. malformedTest (entries text bs) j ≡ false)
+        go true e f j h =
+            let l = whole-end (eqb-true (length bs % recordBytes) 0 e) in
+            ⊎-elim
+            (λ k. ap (malformedTest (entries text bs)) (k ∙ sym l) ∙ end-whole (eqb-true (length bs % recordBytes) 0 e) ∙ f)
+            (λ k. p .each j (omega (arith, k, l)))
+            (below-suc h)
+        go false e f j h = absurd (true≢false f)

@@ -1,0 +1,69 @@
+-- The bytes of a record whose fields are sound are those of a good record, and the entries of a well formed list are its records
+-- with their labels as text: decode after encode is the identity. Assumes nothing.
+use mathlib.Core.Path.{_≡_, refl, sym, ap, _∙_}
+use mathlib.Core.Bool.{Bool, true, false, cond}
+use mathlib.Core.List.{List, [], append-nil}
+use Prim.Native.Nat.{ℕ, _+_, _≤_, _<_}
+use native.Mathlib.Omega.{arith}
+use lib.Dec.{eqb}
+use lib.ListN.{length}
+use lib.Seq.{ext-getD}
+use borrow.Author.Tests.{le-leb, lt-ltb}
+use Rattle.refusal.specs.First.{EachBelow, allBelow}
+use Rattle.refusal.proofs.Says.{says-eq, says-all}
+use Rattle.record.specs.declared.Record.{Record}
+use Rattle.record.specs.Record.{mark, firstGuess, instruction, guess, encode}
+use Rattle.record.specs.Decode.{byte, isGuess, decode, countOf, recordOf, decodeAt, Fits}
+use Rattle.record.specs.Entry.{noEntry, entryAt, upTo, entryOf}
+use Rattle.record.specs.Sound.{longest, labelPlaces, guessEnd, guessZeros, Placed, Sound, Good}
+use Rattle.record.specs.Formed.{WellFormed, entries}
+use Rattle.record.proofs.Back.{length-encode, decode-encode}
+use Rattle.record.proofs.UpTo.{length-up-to, getD-up-to}
+use Rattle.record.proofs.Entries.{entry-good, entry-at, whole-length}
+
+-- ---- a record that is written
+
+module _ (text : List ℕ) (r : Record) (fits : Fits r) where
+  back : decode (encode r) ≡ r
+  back = ap decode (sym (append-nil (encode r))) ∙ decode-encode r [] fits
+
+  marked : byte (encode r) 0 ≡ mark
+  unfolding encode
+  marked = go (isGuess (r .kind))
+    where
+      go : (g : Bool) → byte (cond g (guess r) (instruction r)) 0 ≡ mark
+      go true = refl
+      go false = refl
+
+  ended : firstGuess ≤ r .kind → EachBelow guessZeros (λ k. byte (encode r) (guessEnd + k) ≡ 0)
+  unfolding encode
+  ended h =
+      rw (le-leb firstGuess (r .kind) h)
+      (says-all _ _ (λ k. says-eq (byte (guess r) (guessEnd + k)) 0) guessZeros .so zeros)
+    where
+      zeros : allBelow guessZeros (λ k. eqb (byte (guess r) (guessEnd + k)) 0) ≡ true
+      zeros = refl
+
+  pub good-written : length text ≤ longest → r .count ≤ labelPlaces → EachBelow labelPlaces (Placed text r) → Sound (entryOf text r) → Good text (encode r)
+  good-written short few placed sound =
+      record {
+        short = short;
+        framed = record { whole = length-encode r; marked = marked; few = rw back few; placed = rw back placed; ended = rw back ended };
+        sound = rw back sound;
+      }
+
+-- ---- the entries of a well formed list
+
+module _ (text bs : List ℕ) (w : WellFormed text bs) where
+  pub entry-decoded : (i : ℕ) → i < countOf bs → entryAt (entries text bs) i ≡ entryOf text (decodeAt bs i)
+  unfolding decodeAt
+  entry-decoded i h = entry-at text bs (w .short) (w .few) i h ∙ entry-good text (recordOf bs i) (w .each i h) ∙ rw (lt-ltb i (countOf bs) h) refl
+
+  pub entries-decoded : entries text bs ≡ upTo (countOf bs) (λ i. entryOf text (decodeAt bs i))
+  entries-decoded =
+      let n = whole-length text bs (w .short) (w .few) (w .whole) in
+      let m = length-up-to (countOf bs) (λ i. entryOf text (decodeAt bs i)) in
+      ext-getD noEntry (entries text bs) (upTo (countOf bs) (λ i. entryOf text (decodeAt bs i))) (n ∙ sym m)
+      (λ i h.
+      let b : i < countOf bs = omega (arith, h, n) in
+      entry-decoded i b ∙ sym (getD-up-to (countOf bs) (λ k. entryOf text (decodeAt bs k)) i noEntry b))

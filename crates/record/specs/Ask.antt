@@ -1,0 +1,46 @@
+-- What asking a record for a label or an angle gives back (document 01, "Record"). The record is judged by itself.
+use mathlib.Core.Path.{_≡_}
+use mathlib.Core.Bool.{cond, _&&_}
+use mathlib.Core.List.{List, []}
+use Prim.Native.Nat.{ℕ, _-_, _≤_}
+use lib.Dec.{ltb, eqb}
+use lib.ListN.{length}
+use lib.Ieee.{binary64, ofBits}
+use Rattle.record.specs.declared.Record.{Record}
+use Rattle.record.specs.declared.ask.Part.{Part}
+use Rattle.record.specs.declared.ask.Angle.{Angle}
+use Rattle.record.specs.declared.ask.Angle.the-variants.{Degrees, Radians}
+use Rattle.record.specs.declared.ask.Asked.{Asked}
+use Rattle.record.specs.declared.ask.Asked.the-variants as asked
+use Rattle.record.specs.Kinds.{kindAt, angle}
+use Rattle.record.specs.Decode.{decode}
+use Rattle.record.specs.Entry.{Label, part, named}
+use Rattle.record.specs.Sound.{goodTest}
+use Rattle.record.specs.Formed.{malformed}
+
+-- ---- labels, counted from 0
+
+-- the part of the text that label q of a good record names; an empty part for a bad record or label number
+unfoldable pub labelOf : List ℕ → List ℕ → ℕ → Label
+labelOf text b q = cond (goodTest text b && ltb q (decode b .count)) (named text (decode b) q) []
+
+-- a part of the text that lies inside it and is that label
+pub record Names (text b : List ℕ) (q : ℕ) (r : Part) : Type 0 where
+  pub ordered : r .start ≤ r .end
+  pub inside : r .end ≤ length text
+  pub is : part text (r .start) (r .end - r .start) ≡ labelOf text b q
+
+-- ---- angles
+
+-- the third byte of an angle in degrees
+abbrev pub degrees : ℕ
+degrees = 1
+
+-- the angle of a record's fields: its number as degrees or as radians
+abbrev pub angleIn : Record → Angle
+angleIn r = cond (eqb (r .third) degrees) (Degrees (ofBits binary64 (r .x))) (Radians (ofBits binary64 (r .x)))
+
+-- the angle of a good record of the kind that has one; any other record gets 30 at 0
+unfoldable pub angleOf : List ℕ → List ℕ → Asked
+angleOf text b =
+    cond (goodTest text b && eqb (kindAt (decode b .kind) .number) angle) (asked.Angle (angleIn (decode b))) (asked.Refused malformed 0)

@@ -1,0 +1,57 @@
+-- A record with its labels as their text, which is what a drawing is said in: check and lowering are stated over a list of entries.
+use mathlib.Core.List.{List, [], _∷_}
+use Prim.Native.Nat.{ℕ, zero, suc}
+use lib.ListN.{getD, take, drop}
+use Rattle.record.specs.declared.Record.{Record}
+
+-- a label is its bytes
+abbrev pub Label : Type 0
+Label = List ℕ
+
+-- one record: its numbers are the bits of f64s, and 0 where it has none
+pub record Entry : Type 0 where
+  pub kind : ℕ
+  pub third : ℕ
+  pub labels : List Label
+  pub x : ℕ
+  pub y : ℕ
+
+-- what bytes that are no record are read as: there is no kind 0
+abbrev pub noEntry : Entry
+noEntry = record { kind = 0; third = 0; labels = []; x = 0; y = 0 }
+
+-- entry i, counted from 0
+abbrev pub entryAt : List Entry → ℕ → Entry
+entryAt es i = getD es i noEntry
+
+-- label q of an entry, counted from 0
+abbrev pub labelNo : Entry → ℕ → Label
+labelNo e q = getD (e .labels) q []
+
+-- ---- from a record's fields
+
+-- f 0, f 1, .., n of them
+abbrev pub upTo : {A : Type 0} → ℕ → (ℕ → A) → List A
+upTo zero f = []
+upTo (suc n) f = f zero ∷ upTo n (λ k. f (suc k))
+
+-- where label q of a record starts
+abbrev pub startOf : Record → ℕ → ℕ
+startOf r q = getD (r .start0 ∷ r .start1 ∷ r .start2 ∷ r .start3 ∷ []) q 0
+
+-- the length of label q of a record
+abbrev pub lenOf : Record → ℕ → ℕ
+lenOf r q = getD (r .len0 ∷ r .len1 ∷ r .len2 ∷ r .len3 ∷ []) q 0
+
+-- the part of a text that starts at a place and has a length
+abbrev pub part : List ℕ → ℕ → ℕ → Label
+part text start len = take len (drop start text)
+
+-- the part of a text that label q of a record names
+abbrev pub named : List ℕ → Record → ℕ → Label
+named text r q = part text (startOf r q) (lenOf r q)
+
+-- a record's fields with its labels as their text
+unfoldable pub entryOf : List ℕ → Record → Entry
+entryOf text r =
+    record { kind = r .kind; third = r .third; labels = upTo (r .count) (named text r); x = r .x; y = r .y }

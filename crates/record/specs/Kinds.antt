@@ -1,0 +1,167 @@
+-- THE table of the 25 kinds, which reader, check and lowering all read (document 01, "Kinds", "Check" and 000's forms). Its places are
+-- the kinds' numbers; row 0 is no kind.
+use mathlib.Core.Bool.{Bool, true, false, _&&_}
+use mathlib.Core.List.{List, [], _∷_, _++_}
+use Prim.Native.Nat.{ℕ, _-_}
+use Prim.Native.String.{String}
+use lib.Dec.{eqb}
+use lib.ListN.{length, getD, take, replicate}
+use Rattle.ground.specs.Words.{bytes}
+use Rattle.record.specs.declared.kinds.Kind.{Kind}
+
+-- ---- what a label's place needs, by its code
+
+abbrev pub new : ℕ
+new = 0
+
+abbrev pub a-point : ℕ
+a-point = 1
+
+abbrev pub a-circle : ℕ
+a-circle = 2
+
+abbrev pub an-arc : ℕ
+an-arc = 3
+
+-- a circle or an arc
+abbrev pub a-round : ℕ
+a-round = 4
+
+-- a point, or the center of a circle or an arc
+abbrev pub assigned : ℕ
+assigned = 5
+
+-- a part that is guessed as a pair, and one that is guessed as a number
+abbrev pub pair-part : ℕ
+pair-part = 6
+
+abbrev pub number-part : ℕ
+number-part = 7
+
+-- ---- the sorts of number
+
+abbrev pub none : ℕ
+none = 0
+
+abbrev pub number : ℕ
+number = 1
+
+abbrev pub expression : ℕ
+expression = 2
+
+abbrev pub angle : ℕ
+angle = 3
+
+abbrev pub pair : ℕ
+pair = 4
+
+-- ---- the rows
+
+-- a word in a field of twenty bytes
+abbrev pub padded : List ℕ → List ℕ
+padded w = w ++ replicate (20 - length w) 32
+
+-- a kind by its word, its labels' needs, its third bytes, its number, whether a space may stand before the bracket, and whether its label may have a point
+abbrev pub kind : String → List ℕ → ℕ → ℕ → Bool → Bool → Kind
+kind w needs thirds number gap dotted =
+    record {
+      word = padded (bytes w);
+      len = length (bytes w);
+      labels = length needs;
+      needs = needs ++ replicate (4 - length needs) 0;
+      thirds = thirds;
+      number = number;
+      gap = gap;
+      dotted = dotted;
+    }
+
+-- a rule over labels alone: `two_points` and its like allow a space before the bracket
+abbrev pub rule : String → List ℕ → Bool → Kind
+rule w needs gap = kind w needs 0 none gap false
+
+abbrev pub two : ℕ → List ℕ
+two n = n ∷ n ∷ []
+
+abbrev pub three : ℕ → List ℕ
+three n = n ∷ n ∷ n ∷ []
+
+abbrev pub four : ℕ → List ℕ
+four n = n ∷ n ∷ n ∷ n ∷ []
+
+abbrev pub one : ℕ → List ℕ
+one n = n ∷ []
+
+-- the third byte is 1 or 2: x or y, deg or rad
+abbrev pub either : ℕ
+either = 2
+
+abbrev pub noKind : Kind
+noKind = kind "" [] 0 none false false
+
+abbrev pub kinds : List Kind
+kinds =
+    -- 0 no kind
+    noKind
+    -- 1 DeclarePoint
+    ∷ rule "point" (one new) false
+    -- 2 DeclareCircle
+    ∷ rule "circle" (one new) false
+    -- 3 DeclareArc
+    ∷ rule "arc" (one new) false
+    -- 4 FixPointComponent
+    ∷ kind "" (one assigned) either number false true
+    -- 5 Vertical
+    ∷ rule "vertical" (two a-point) true
+    -- 6 Horizontal
+    ∷ rule "horizontal" (two a-point) true
+    -- 7 Distance
+    ∷ kind "distance" (two a-point) 0 expression false false
+    -- 8 Parallel
+    ∷ rule "parallel" (four a-point) true
+    -- 9 Perpendicular
+    ∷ rule "perpendicular" (four a-point) true
+    -- 10 AngleLine
+    ∷ kind "lines_at_angle" (four a-point) either angle false false
+    -- 11 PointsCoincident
+    ∷ rule "coincident" (two a-point) true
+    -- 12 PointArcCoincident
+    ∷ rule "point_arc_coincident" (a-point ∷ an-arc ∷ []) true
+    -- 13 Midpoint
+    ∷ rule "midpoint" (three a-point) true
+    -- 14 Symmetric
+    ∷ rule "symmetric" (four a-point) true
+    -- 15 CircleRadius
+    ∷ kind "radius" (one a-circle) 0 expression false false
+    -- 16 Tangent
+    ∷ rule "tangent" (a-point ∷ a-point ∷ a-circle ∷ []) false
+    -- 17 ArcRadius
+    ∷ kind "arc_radius" (one an-arc) 0 number false false
+    -- 18 FixCenterPointComponent
+    ∷ kind "" (one a-round) either number false false
+    -- 19 LinesEqualLength
+    ∷ rule "lines_equal_length" (four a-point) true
+    -- 20 IsArc
+    ∷ rule "is_arc" (one an-arc) false
+    -- 21 PointLineDistance
+    ∷ kind "point_line_distance" (three a-point) 0 number true false
+    -- 22 Line
+    ∷ rule "line" (two a-point) false
+    -- 23 ArcLength
+    ∷ kind "arc_length" (one an-arc) 0 number false false
+    -- 24 point guess
+    ∷ kind "" (one pair-part) 0 pair false true
+    -- 25 scalar guess
+    ∷ kind "" (one number-part) 0 number false true
+    ∷ []
+
+-- the row of a kind
+abbrev pub kindAt : ℕ → Kind
+kindAt k = getD kinds k noKind
+
+-- the bytes of a kind's word
+abbrev pub wordOf : ℕ → List ℕ
+wordOf k = take (kindAt k .len) (kindAt k .word)
+
+-- a kind's word, with its padding, begins with two bytes
+abbrev pub begins : Kind → ℕ → ℕ → Bool
+begins k a b = eqb (getD (k .word) 0 0) a && eqb (getD (k .word) 1 0) b

@@ -1,0 +1,85 @@
+// What a record is asked for: a label, as the part of the text that it names, or its angle. The record is judged by itself.
+ghost use mathlib.Core.Path.{_≡_};
+ghost use Rattle.record.specs.Ask.{labelOf, Names, angleIn, angleOf};
+use super::Record;
+use super::decode;
+use super::formed::MALFORMED;
+use super::kinds;
+use super::sound;
+
+// The third byte of an angle in degrees.
+const DEGREES: u8 = 1;
+
+// An angle with its number.
+pub enum Angle {
+    Degrees(f64),
+    Radians(f64),
+}
+
+// What asking for an angle gives back.
+pub enum Asked {
+    Angle(Angle),
+    Refused { number: u8, place: usize },
+}
+
+// A part of a text, by its start and its end.
+struct Part {
+    start: usize,
+    end: usize,
+}
+
+// The part that label q of a record names; an empty one for a bad record or label number.
+fn part_of(text: &[u8], bytes: &[u8], q: usize) -> Part
+    ensures { λ r. ⌜ Names (now (text .entry)) (now (bytes .entry)) q r ⌝ }
+{
+    if sound::good_kind(text, bytes) == 0 {
+        return Part { start: 0, end: 0 };
+    }
+    let r = decode::fields(bytes);
+    if r.count as usize <= q {
+        return Part { start: 0, end: 0 };
+    }
+    let starts = [r.start0, r.start1, r.start2, r.start3];
+    let lens = [r.len0, r.len1, r.len2, r.len3];
+    let start = starts[q];
+    Part {
+        start,
+        end: start + lens[q],
+    }
+}
+
+// Label q of a record, counted from 0: a part of the lent text, and an empty part for a bad record or label number.
+pub fn label<'a>(text: &'a [u8], bytes: &[u8], q: usize) -> &'a [u8]
+    ensures { λ r. ⌜ now r ≡ labelOf (now (text .entry)) (now (bytes .entry)) q ⌝ }
+{
+    let p = part_of(text, bytes, q);
+    let start = p.start;
+    let end = p.end;
+    &text[start..end]
+}
+
+// The angle of a record's fields.
+fn angle_in(r: Record) -> Angle
+    ensures { λ a. ⌜ a ≡ angleIn r ⌝ }
+{
+    let x = bits::from_bits(r.x);
+    if r.third == DEGREES {
+        return Angle::Degrees(x);
+    }
+    Angle::Radians(x)
+}
+
+// The angle of a good record that has one; any other record gets 30 at 0.
+pub fn angle_of(text: &[u8], bytes: &[u8]) -> Asked
+    ensures { λ r. ⌜ r ≡ angleOf (now (text .entry)) (now (bytes .entry)) ⌝ }
+{
+    let kind = sound::good_kind(text, bytes);
+    let k = kinds::kind_of(kind);
+    if k.number != kinds::ANGLE {
+        return Asked::Refused {
+            number: MALFORMED,
+            place: 0,
+        };
+    }
+    Asked::Angle(angle_in(decode::fields(bytes)))
+}

@@ -1,0 +1,66 @@
+// Whether a list of records is well formed.
+ghost use mathlib.Core.Path.{_≡_};
+ghost use Rattle.record.specs.Formed.{entries, misplaced, formedOf};
+use super::GUESS;
+use super::SIZE;
+use super::sound;
+
+// The most records, and the number of the refusal.
+pub const MOST: usize = 1_800;
+
+pub const MALFORMED: u8 = 30;
+
+// What is told of a list of records.
+pub enum Formed {
+    WellFormed,
+    Refused { number: u8, place: usize },
+}
+
+// Whether a record is bad or not in its place, by its kind, which is 0 for a bad one.
+fn at_fault(kind: u8, i: usize, guessed: bool) -> bool
+    ensures { λ r. ⌜ r ≡ misplaced kind i guessed ⌝ }
+{
+    let guess = GUESS <= kind;
+    (kind == 0) | (((i == 0) & guess) | (!guess & guessed))
+}
+
+// The lowest place at which a list of records is not well formed, if there is one.
+pub fn well_formed(text: &[u8], records: &[u8]) -> Formed
+    ensures { λ r. ⌜ r ≡ formedOf (entries (now (text .entry)) (now (records .entry))) ⌝ }
+{
+    if sound::LONGEST < text.len() {
+        return Formed::Refused {
+            number: MALFORMED,
+            place: 0,
+        };
+    }
+    let n = records.len() / SIZE;
+    if MOST < n {
+        return Formed::Refused {
+            number: MALFORMED,
+            place: 0,
+        };
+    }
+    let mut guessed = false;
+    let mut i = 0;
+    while i < n {
+        let at = i * SIZE;
+        let end = at + SIZE;
+        let kind = sound::good_kind(text, &records[at..end]);
+        if at_fault(kind, i, guessed) {
+            return Formed::Refused {
+                number: MALFORMED,
+                place: i,
+            };
+        }
+        guessed = guessed | (GUESS <= kind);
+        i += 1;
+    }
+    if (records.len() % SIZE != 0) | !guessed {
+        return Formed::Refused {
+            number: MALFORMED,
+            place: n,
+        };
+    }
+    Formed::WellFormed
+}

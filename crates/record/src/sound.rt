@@ -1,0 +1,132 @@
+// Whether a record, judged by itself, is a good one.
+ghost use mathlib.Core.Path.{_≡_};
+ghost use mathlib.Core.Bool.{true, not, _||_};
+ghost use Prim.Native.Nat.{_+_, _≤_};
+ghost use lib.ListN.{length};
+ghost use Rattle.refusal.specs.First.{EachBelow};
+ghost use Rattle.record.specs.Record.{recordBytes};
+ghost use Rattle.record.specs.Decode.{decode};
+ghost use Rattle.record.specs.Entry.{part};
+ghost use Rattle.record.specs.Sound.{labelPlaces, Placed, spelledTest, placedTest, allPlaced, endedTest, framedTest, fieldsTest, spelledAll, goodKind};
+use super::GUESS;
+use super::MARK;
+use super::Record;
+use super::SIZE;
+use super::decode;
+use super::kinds;
+use super::kinds::Kind;
+use text::Stand;
+
+// The longest text.
+pub const LONGEST: usize = 32_768;
+
+// The label places of a record.
+const PLACES: u8 = 4;
+
+// Whether a text is spelled as a label, or as two around a point.
+fn spelled(label: &[u8], dotted: bool) -> bool
+    ensures { λ r. ⌜ r ≡ spelledTest dotted (now (label .entry)) ⌝ }
+{
+    let at = Stand::At(0);
+    let read = if dotted {
+        text::parse_label_opt_suffix(label, at)
+    } else {
+        text::parse_label(label, at)
+    };
+    (0 < read.len) & (read.len == label.len())
+}
+
+// Whether a label place that is used is spelled as a label.
+fn spelled_if(text: &[u8], start: usize, len: usize, used: bool, dotted: bool) -> bool
+    requires { ⌜ (used ≡ true → start + len ≤ length (now text)) ⌝ }
+    ensures { λ r. ⌜ r ≡ not used || spelledTest dotted (part (now (text .entry)) start len) ⌝ }
+{
+    if !used {
+        return true;
+    }
+    let end = start + len;
+    spelled(&text[start..end], dotted)
+}
+
+// Whether each label of a record is spelled as one.
+fn spelled_all(text: &[u8], r: Record, dotted: bool) -> bool
+    requires { ⌜ EachBelow labelPlaces (Placed (now text) r) ⌝ }
+    ensures { λ b. ⌜ b ≡ spelledAll (now (text .entry)) r dotted ⌝ }
+{
+    spelled_if(text, r.start0, r.len0, 0 < r.count, dotted)
+        & spelled_if(text, r.start1, r.len1, 1 < r.count, dotted)
+        & spelled_if(text, r.start2, r.len2, 2 < r.count, dotted)
+        & spelled_if(text, r.start3, r.len3, 3 < r.count, dotted)
+}
+
+// Whether a label place lies inside a text of n bytes, or has zeros where it is not used.
+fn placed(start: usize, len: usize, used: bool, n: usize) -> bool
+    ensures { λ r. ⌜ r ≡ placedTest start len used n ⌝ }
+{
+    if !used {
+        return (start == 0) & (len == 0);
+    }
+    if n < start {
+        return false;
+    }
+    len <= n - start
+}
+
+// Whether each label place does.
+fn placed_all(r: Record, n: usize) -> bool
+    ensures { λ b. ⌜ b ≡ allPlaced r n ⌝ }
+{
+    placed(r.start0, r.len0, 0 < r.count, n)
+        & placed(r.start1, r.len1, 1 < r.count, n)
+        & placed(r.start2, r.len2, 2 < r.count, n)
+        & placed(r.start3, r.len3, 3 < r.count, n)
+}
+
+// Whether a guess ends in zeros.
+fn ended(b: &[u8], guess: bool) -> bool
+    requires { ⌜ length (now b) ≡ recordBytes ⌝ }
+    ensures { λ r. ⌜ r ≡ endedTest (now (b .entry)) guess ⌝ }
+{
+    !guess | ((b[24] == 0) & (b[25] == 0) & (b[26] == 0) & (b[27] == 0))
+}
+
+// Whether a record's bytes hold the record r over a text of n bytes.
+fn framed(b: &[u8], r: Record, n: usize) -> bool
+    requires { ⌜ (length (now b) ≡ recordBytes) × (r ≡ decode (now b)) ⌝ }
+    ensures { λ a. ⌜ a ≡ framedTest n (now (b .entry)) ⌝ }
+{
+    (b[0] == MARK) & ((r.count <= PLACES) & (placed_all(r, n) & ended(b, GUESS <= r.kind)))
+}
+
+// Whether the fields of a record are as its kind allows.
+fn allowed(r: Record, k: Kind) -> bool
+    ensures { λ b. ⌜ b ≡ fieldsTest k (r .third) (r .count) (r .x) (r .y) ⌝ }
+{
+    (0 < k.labels)
+        & (((r.third <= k.thirds) & (!(0 < k.thirds) | (0 < r.third)))
+            & ((r.count == k.labels)
+                & ((!(k.number == kinds::NONE) | (r.x == 0))
+                    & ((k.number == kinds::PAIR) | (r.y == 0)))))
+}
+
+// The kind of a good record, and 0 of any other bytes.
+pub(crate) fn good_kind(text: &[u8], b: &[u8]) -> u8
+    ensures { λ r. ⌜ r ≡ goodKind (now (text .entry)) (now (b .entry)) ⌝ }
+{
+    if LONGEST < text.len() {
+        return 0;
+    }
+    if b.len() != SIZE {
+        return 0;
+    }
+    let r = decode::fields(b);
+    if !framed(b, r, text.len()) {
+        return 0;
+    }
+    let k = kinds::kind_of(r.kind);
+    if allowed(r, k) & spelled_all(text, r, k.dotted) {
+        r.kind
+    } else {
+        0
+    }
+}
