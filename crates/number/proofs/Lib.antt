@@ -6,3 +6,4 @@ pub mod Depth
 pub mod Only
 pub mod Cases
 pub mod Significant
+pub mod Within

@@ -6,3 +6,6 @@ pub mod Storing
 pub mod Turns
 pub mod Ends
 pub mod Only
+pub mod Ahead
+pub mod Enough
+pub mod Never

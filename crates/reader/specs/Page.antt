@@ -134,7 +134,7 @@ toldOf whole size instructions guesses bytes end =
     (cond (ltb bytes (recordBytes * (instructions + guesses))) (reading.Refused 12 0)
     (reading.Good instructions guesses end)))
 
--- where reading stands in the end; it never ends with nothing read (`never-nothing` in proofs/Ends)
+-- where reading stands in the end; it never ends with nothing read (`never-nothing` in proofs/Never)
 abbrev pub endedOf : Bool → List ℕ → Problem → ℕ → Stand → Reading
 endedOf whole s p bytes (At end) = toldOf whole (length s) (length (p .instructions)) (length (p .guesses)) bytes end
 endedOf whole s p bytes Nothing = reading.Refused 3 0

@@ -49,7 +49,7 @@ longer-word : (t : Bool) (ws bs : List ℕ) → (starts ws bs ≡ true → lengt
 longer-word true ws bs h e = omega (arith, h e)
 longer-word false ws bs h e = absurd (true≢false (sym e))
 
-starts-length : (w l : List ℕ) → starts w l ≡ true → length w ≤ length l
+pub starts-length : (w l : List ℕ) → starts w l ≡ true → length w ≤ length l
 starts-length [] l e = omega arith
 starts-length (w ∷ ws) [] e = absurd (true≢false (sym e))
 starts-length (w ∷ ws) (b ∷ bs) e = longer-word (eqb b w) ws bs (starts-length ws bs) e
@@ -62,7 +62,7 @@ module _ (s : List ℕ) where
   decided true h = h refl
   decided false h = tt
 
-  wordAt-within : (w : List ℕ) (at : ℕ) → at ≤ length s → Within s at (wordAt s w at)
+  pub wordAt-within : (w : List ℕ) (at : ℕ) → at ≤ length s → Within s at (wordAt s w at)
   unfolding wordAt
   wordAt-within w at h =
       decided (starts w (drop at s)) (λ e. (omega arith, omega (arith, starts-length w (drop at s) e, length-drop at s)))

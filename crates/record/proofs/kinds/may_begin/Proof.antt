@@ -1,6 +1,6 @@
 -- `record::kinds::may_begin` meets its contract: the two lists are the first and the second bytes of the table's words. Assumes nothing.
 use borrow.Author.Needs.{needs}
-use mathlib.Core.Path.{_≡_, refl, _∙_}
+use mathlib.Core.Path.{_≡_, _∙_}
 use mathlib.Core.Bool.{_&&_}
 use mathlib.Core.List.{map}
 use Prim.Native.Nat.{ℕ, _<_}
@@ -8,7 +8,7 @@ use lib.Dec.{eqb}
 use lib.ListN.{getD, length, List·getD-map, List·getD-eq-default}
 use Rattle.ground.proofs.Lists.{getD-inside}
 use Rattle.record.specs.declared.kinds.Kind.{Kind}
-use Rattle.record.specs.Kinds.{kinds, noKind, kindAt, begins}
+use Rattle.record.specs.Kinds.{kinds, noKind, kindAt}
 use Rattle.record.proofs.kinds.may_begin.Statement.{statement}
 use Rattle.record.proofs.kinds.may_begin.Tie as tie
 

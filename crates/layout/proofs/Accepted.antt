@@ -1,0 +1,173 @@
+-- Points, circles and arcs with room and ids enough are all accepted: kind by kind, each push leaves room for those after it.
+-- Assumes nothing.
+use mathlib.Core.Path.{_≡_, refl, _∙_, ap}
+use Prim.Native.Nat.{ℕ, suc, _+_, _*_, _≤_, _<_}
+use native.Mathlib.Omega.{arith}
+use native.Mathlib.Nat.{suc-mul, zero-add}
+use mathlib.Core.List.{List, [], _∷_, _++_, append-assoc, append-nil, map}
+use lib.ListN.{length, length-map}
+use lib.Ieee.{Float}
+use Rattle.layout.specs.declared.Kind.{Kind}
+use Rattle.layout.specs.declared.Kind.the-variants as K
+use Rattle.layout.specs.declared.Layout.{Layout}
+use Rattle.layout.specs.declared.Point.{Point}
+use Rattle.layout.specs.declared.Circle.{Circle}
+use Rattle.layout.specs.declared.Arc.{Arc}
+use Rattle.layout.specs.Slots.{Shape, point, circle, arc, kindOf, components, sizeOf, countOf, slotsOf, withOne, empty, mostShapes, stageNumber, stageDue}
+use Rattle.layout.specs.Refusals.{idsEnd, doneTests}
+use Rattle.layout.specs.Push.{State, state, testsIn, filled, stepped}
+use Rattle.layout.specs.Run.{Act, push, done, act, takes, run, taken, runOf, Room, AllIn}
+use Rattle.layout.proofs.Told.{Clear, told-clear}
+use Rattle.layout.proofs.Laws.{Can, can-be, Fits, fits-clear, done-clear}
+use Rattle.layout.proofs.Runs.{Kept, kept-filled, kept-act, kept-laid, kept-empty, ids-length, values-length, slots-more}
+
+-- the layout with n more of a kind
+abbrev more : Kind → ℕ → Layout → Layout
+more K.Point n l = record { points = l .points + n; circles = l .circles; arcs = l .arcs; stage = l .stage }
+more K.Circle n l = record { points = l .points; circles = l .circles + n; arcs = l .arcs; stage = l .stage }
+more K.Arc n l = record { points = l .points; circles = l .circles; arcs = l .arcs + n; stage = l .stage }
+
+more-none : (k : Kind) (l : Layout) → l ≡ more k 0 l
+more-none K.Point l = let e : l .points ≡ l .points + 0 = omega arith in ap (λ (n : ℕ). record { points = n; circles = l .circles; arcs = l .arcs; stage = l .stage }) e
+more-none K.Circle l = let e : l .circles ≡ l .circles + 0 = omega arith in ap (λ (n : ℕ). record { points = l .points; circles = n; arcs = l .arcs; stage = l .stage }) e
+more-none K.Arc l = let e : l .arcs ≡ l .arcs + 0 = omega arith in ap (λ (n : ℕ). record { points = l .points; circles = l .circles; arcs = n; stage = l .stage }) e
+
+more-one : (k : Kind) (n : ℕ) (l : Layout) → more k n (withOne k l) ≡ more k (suc n) l
+more-one K.Point n l = let e : l .points + 1 + n ≡ l .points + suc n = omega arith in rw e
+more-one K.Circle n l = let e : l .circles + 1 + n ≡ l .circles + suc n = omega arith in rw e
+more-one K.Arc n l = let e : l .arcs + 1 + n ≡ l .arcs + suc n = omega arith in rw e
+
+module _ (first : State) where
+  -- n more of a kind have room
+  record Free (k : Kind) (n : ℕ) (l : Layout) : Type 0 where
+    be : Can l
+    due : stageNumber (l .stage) ≡ stageDue k
+    room : countOf k l + n ≤ mostShapes
+    in-ids : slotsOf l + n * sizeOf k ≤ length (first .ids)
+    in-values : slotsOf l + n * sizeOf k ≤ length (first .values)
+    left : first .next + (slotsOf l + n * sizeOf k) ≤ idsEnd
+
+  free : (k : Kind) (n : ℕ) (l : Layout) → l .points ≤ mostShapes → l .circles ≤ mostShapes → l .arcs ≤ mostShapes
+      → (0 < l .circles → 1 ≤ stageNumber (l .stage)) → (0 < l .arcs → 2 ≤ stageNumber (l .stage)) → stageNumber (l .stage) ≡ stageDue k → countOf k l + n ≤ mostShapes
+      → slotsOf l + n * sizeOf k ≤ length (first .ids) → slotsOf l + n * sizeOf k ≤ length (first .values) → first .next + (slotsOf l + n * sizeOf k) ≤ idsEnd → Free k n l
+  free k n l p c a lc la d r i v e =
+      record { be = record { counts = record { points = p; circles = c; arcs = a }; circles-late = lc; arcs-late = la }; due = d; room = r; in-ids = i; in-values = v; left = e }
+
+  free-fits : (k : Kind) (n : ℕ) (xs : List Shape) (s : State) → Kept first xs s → Free k (suc n) (s .layout) → Fits k (s .layout) (s .next) (length (s .ids)) (length (s .values))
+  free-fits k n xs s h f =
+      let e = suc-mul n (sizeOf k) in
+      let i = ids-length first xs s h in
+      let v = values-length first xs s h in
+      record {
+        counts = f .be .counts;
+        due = f .due;
+        room = omega (arith, f .room);
+        in-ids = omega (arith, f .in-ids);
+        in-values = omega (arith, f .in-values);
+        left = omega (arith, f .left, h .next-is, h .slots);
+      }
+
+  can-more : (k : Kind) (l : Layout) → Can l → stageNumber (l .stage) ≡ stageDue k → countOf k l < mostShapes → Can (withOne k l)
+  can-more K.Point l h d r = record { counts = record { points = omega arith; circles = h .counts .circles; arcs = h .counts .arcs }; circles-late = h .circles-late; arcs-late = h .arcs-late }
+  can-more K.Circle l h d r = record { counts = record { points = h .counts .points; circles = omega arith; arcs = h .counts .arcs }; circles-late = λ z. omega arith; arcs-late = h .arcs-late }
+  can-more K.Arc l h d r = record { counts = record { points = h .counts .points; circles = h .counts .circles; arcs = omega arith }; circles-late = h .circles-late; arcs-late = λ z. omega arith }
+
+  same-stage : (k : Kind) (l : Layout) → withOne k l .stage ≡ l .stage
+  same-stage K.Point l = refl
+  same-stage K.Circle l = refl
+  same-stage K.Arc l = refl
+
+  one-more : (k : Kind) (l : Layout) → countOf k (withOne k l) ≡ countOf k l + 1
+  one-more K.Point l = refl
+  one-more K.Circle l = refl
+  one-more K.Arc l = refl
+
+  free-more : (k : Kind) (n : ℕ) (l : Layout) → Free k (suc n) l → Free k n (withOne k l)
+  free-more k n l f =
+      let e = suc-mul n (sizeOf k) in
+      let s = slots-more k l in
+      let c = one-more k l in
+      record {
+        be = can-more k l (f .be) (f .due) (omega (arith, f .room));
+        due = rw (same-stage k l) (f .due);
+        room = omega (arith, f .room);
+        in-ids = omega (arith, f .in-ids);
+        in-values = omega (arith, f .in-values);
+        left = omega (arith, f .left);
+      }
+
+  -- shapes of a kind, and `done` after them, with whatever follows
+  record Leg (k : Kind) (shapes ys : List Shape) (s : State) : Type 0 where
+    last : State
+    layout-is : last .layout ≡ stepped (more k (length shapes) (s .layout))
+    keeps : Kept first (ys ++ shapes) last
+    took : (rest : List Act) → taken (map push shapes ++ (done ∷ rest)) s ≡ shapes ++ taken rest last
+    went : (rest : List Act) → run (map push shapes ++ (done ∷ rest)) s ≡ run rest last
+
+  due-small : (k : Kind) → stageDue k < 3
+  due-small K.Point = omega arith
+  due-small K.Circle = omega arith
+  due-small K.Arc = omega arith
+
+  module _ {X : Type 0} (make : X → Shape) (k : Kind) (is : (x : X) → kindOf (make x) ≡ k) where
+    leg : (xs : List X) (ys : List Shape) (s : State) → Kept first ys s → Free k (length xs) (s .layout) → Leg k (map make xs) ys s
+    unfolding run taken
+    leg [] ys s h f =
+        record {
+          last = act done s;
+          layout-is = told-clear (λ r. s .layout) (doneTests (s .layout)) (stepped (s .layout)) (done-clear _ (can-be _ (f .be)) (λ e. omega (arith, due-small k, f .due))) ∙ ap stepped (more-none k (s .layout));
+          keeps = kept-act first done ys s h;
+          took = λ rest. refl;
+          went = λ rest. refl;
+        }
+    leg (x ∷ xs) ys s h f =
+        let e = is x in
+        let t = free-fits k (length xs) ys s h f in
+        let c : Clear (testsIn (kindOf (make x)) s) = rw e (fits-clear _ _ _ _ _ (can-be _ (f .be)) t) in
+        let s′ = filled (kindOf (make x)) (components (make x)) s in
+        let filled-is : act (push (make x)) s ≡ s′ = told-clear _ _ _ c in
+        let took-it : takes (push (make x)) s ≡ make x ∷ [] = told-clear _ _ _ c in
+        let next = leg xs (ys ++ (make x ∷ [])) s′ (kept-filled first (make x) ys s h (rw e t)) (rw e (free-more k (length xs) (s .layout) f)) in
+        record {
+          last = next .last;
+          layout-is = next .layout-is ∙ rw e (ap stepped (more-one k (length (map make xs)) (s .layout)));
+          keeps = rw append-assoc at (next .keeps);
+          took = λ rest.
+              let acts = map push (map make xs) ++ (done ∷ rest) in
+              ap (λ (z : List Shape). z ++ taken acts (act (push (make x)) s)) took-it ∙ ap (λ (z : State). make x ∷ taken acts z) filled-is ∙ ap (λ (z : List Shape). make x ∷ z) (next .took rest);
+          went = λ rest. ap (run (map push (map make xs) ++ (done ∷ rest))) filled-is ∙ next .went rest;
+        }
+
+module _ (next : ℕ) (ids : List ℕ) (values : List Float) (ps : List Point) (cs : List Circle) (xs : List Arc) (room : Room (state empty next ids values) (length ps) (length cs) (length xs)) where
+  abbrev first : State
+  first = state empty next ids values
+
+  after-points : Leg first K.Point (map point ps) [] first
+  after-points =
+      leg first point K.Point (λ p. refl) ps [] first (kept-empty next ids values)
+      (free first K.Point (length ps) empty (omega arith) (omega arith) (omega arith) (λ h. omega arith) (λ h. omega arith) refl (omega arith) (omega arith) (omega arith) (omega arith))
+
+  after-circles : Leg first K.Circle (map circle cs) (map point ps) (after-points .last)
+  after-circles =
+      let n = length-map ps point in
+      leg first circle K.Circle (λ c. refl) cs (map point ps) (after-points .last) (after-points .keeps)
+      (rw (after-points .layout-is) (free first K.Circle (length cs) _ (omega arith) (omega arith) (omega arith) (λ h. omega arith) (λ h. omega arith) refl (omega arith) (omega arith) (omega arith) (omega arith)))
+
+  after-arcs : Leg first K.Arc (map arc xs) (map point ps ++ map circle cs) (after-circles .last)
+  after-arcs =
+      let n = length-map ps point in
+      let m = length-map cs circle in
+      leg first arc K.Arc (λ a. refl) xs (map point ps ++ map circle cs) (after-circles .last) (after-circles .keeps)
+      (rw (after-circles .layout-is, after-points .layout-is) (free first K.Arc (length xs) _ (omega arith) (omega arith) (omega arith) (λ h. omega arith) (λ h. omega arith) refl (omega arith) (omega arith) (omega arith) (omega arith)))
+
+  ends : run (runOf ps cs xs) first ≡ after-arcs .last
+  unfolding run
+  ends = after-points .went _ ∙ after-circles .went _ ∙ after-arcs .went []
+
+  pub all-in : AllIn first ps cs xs
+  unfolding taken
+  all-in = record {
+    all-taken = after-points .took _ ∙ ap (λ (z : List Shape). map point ps ++ z) (after-circles .took _ ∙ ap (λ (z : List Shape). map circle cs ++ z) (after-arcs .took [] ∙ append-nil (map arc xs)));
+    layout-is = ap (λ (s : State). s .layout) ends ∙ after-arcs .layout-is ∙ rw (after-circles .layout-is, after-points .layout-is, length-map ps point, length-map cs circle, length-map xs arc) (simp zero-add);
+    all-laid = rw ends (kept-laid first _ _ (rw append-assoc at (after-arcs .keeps)));
+  }

@@ -1,0 +1,46 @@
+-- With ids all distinct, the two lookups of an arc agree on every arc exactly if there are no circles or no arcs: with both, the first arc's first slots differ.
+-- Assumes nothing.
+use mathlib.Core.Path.{_≡_, refl, sym, _∙_, ap}
+use mathlib.Core.Bool.{false}
+use mathlib.Core.Logic.{_⊎_, inl, inr}
+use mathlib.Core.List.{List}
+use Prim.Native.Nat.{ℕ, zero, suc, _+_, _*_, _≤_, _<_}
+use native.Mathlib.Omega.{arith}
+use lib.ListN.{length, getD}
+use Rattle.layout.specs.declared.Kind.the-variants.{Arc}
+use Rattle.layout.specs.declared.Layout.{Layout}
+use Rattle.layout.specs.declared.ArcVars.{ArcVars}
+use Rattle.layout.specs.declared.ArcIds.the-variants as AI
+use Rattle.layout.specs.Slots.{slotsOf, slotOf}
+use Rattle.layout.specs.Refusals.{impossible}
+use Rattle.layout.specs.Look.{arcIdsAt, arcIds, arcSlotIds, arcVars}
+use Rattle.layout.specs.Run.{Distinct}
+use Rattle.layout.proofs.Told.{told-clear}
+use Rattle.layout.proofs.Laws.{look-clear}
+
+module _ (l : Layout) (ids : List ℕ) (possible : impossible l ≡ false) (long : slotsOf l ≤ length ids) where
+  found : (i at : ℕ) → i < l .arcs → arcIdsAt l ids i at ≡ AI.Found (arcVars ids at)
+  found i at h = told-clear _ _ _ (look-clear Arc l (length ids) i possible long h)
+
+  pub agree : (l .circles ≡ 0) ⊎ (l .arcs ≡ 0) → (i : ℕ) → i < l .arcs → arcIds l ids i ≡ arcSlotIds l ids i
+  unfolding arcIds arcSlotIds
+  agree (inl e) i h = let same : l .points * 2 + i * 6 ≡ slotOf Arc l i = omega arith in ap (arcIdsAt l ids i) same
+  agree (inr e) i h = absurd (omega arith)
+
+  -- the first ids of two arcs that are found alike
+  first-id : (at at′ : ℕ) → AI.Found (arcVars ids at) ≡ AI.Found (arcVars ids at′) → getD ids at 0 ≡ getD ids at′ 0
+  first-id at at′ e = let v : arcVars ids at ≡ arcVars ids at′ = cc in ap (λ (v : ArcVars). v .start .x) v
+
+  first-arc : 0 < l .arcs → arcIds l ids 0 ≡ arcSlotIds l ids 0 → getD ids (l .points * 2 + 0 * 6) 0 ≡ getD ids (slotOf Arc l 0) 0
+  unfolding arcIds arcSlotIds
+  first-arc h e = first-id _ _ (sym (found 0 (l .points * 2 + 0 * 6) h) ∙ e ∙ found 0 (slotOf Arc l 0) h)
+
+  pub circles-or-arcs : Distinct (slotsOf l) ids → ((i : ℕ) → i < l .arcs → arcIds l ids i ≡ arcSlotIds l ids i) → (l .circles ≡ 0) ⊎ (l .arcs ≡ 0)
+  circles-or-arcs distinct same = by-count (l .arcs) refl
+    where
+      by-count : (a : ℕ) → l .arcs ≡ a → (l .circles ≡ 0) ⊎ (l .arcs ≡ 0)
+      by-count zero e = inr e
+      by-count (suc a) e =
+          let h : 0 < l .arcs = omega arith in
+          let slots : l .points * 2 + 0 * 6 ≡ slotOf Arc l 0 = distinct _ _ (omega arith) (omega arith) (first-arc h (same 0 h)) in
+          inl (omega arith)

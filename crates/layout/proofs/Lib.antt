@@ -1,0 +1,10 @@
+pub mod Told
+pub mod Laws
+pub mod Onward
+pub mod Storing
+pub mod Runs
+pub mod Accepted
+pub mod Agree
+pub mod Parts
+pub mod Only
+pub mod Claims

@@ -1,0 +1,178 @@
+-- Each part of a layout has a slot of its own, so a value put there is read out as that part and no other; and what was pushed is read out, shape by shape.
+-- Assumes nothing.
+use mathlib.Core.Path.{_≡_, refl, sym, _∙_, ap}
+use mathlib.Core.Bool.{false}
+use mathlib.Core.List.{List, [], _∷_, _++_, append-assoc, append-nil, map}
+use Prim.Native.Nat.{ℕ, zero, suc, _+_, _*_, _≤_, _<_}
+use native.Mathlib.Omega.{arith}
+use native.Mathlib.Nat.{suc-mul, zero-mul, zero-add}
+use lib.ListN.{length, getD, set, length-set, length-append, List·getD-append}
+use lib.Seq.{getD-set-same, getD-set-other, getD-append-add}
+use lib.Ieee.{Float, nan}
+use borrow.Author.Count.{below-none, below-more}
+use Rattle.layout.specs.declared.Kind.{Kind}
+use Rattle.layout.specs.declared.Kind.the-variants as K
+use Rattle.layout.specs.declared.Layout.{Layout}
+use Rattle.layout.specs.declared.Point.{Point}
+use Rattle.layout.specs.declared.Circle.{Circle}
+use Rattle.layout.specs.declared.Arc.{Arc}
+use Rattle.layout.specs.Slots.{Shape, point, circle, arc, kindOf, components, sizeOf, countOf, slotsOf, slotOf, empty}
+use Rattle.layout.specs.Refusals.{impossible}
+use Rattle.layout.specs.Push.{State, state}
+use Rattle.layout.specs.Look.{pointRead, circleRead, arcRead}
+use Rattle.layout.specs.Run.{run, allComponents, shapesOf, runOf, Room, AllIn}
+use Rattle.layout.specs.Parts.{Part, Has, slotFor, shapeAt, Reads, ReadOut, ReadBack}
+use Rattle.layout.proofs.Told.{told-clear}
+use Rattle.layout.specs.declared.PointRead.the-variants as PR
+use Rattle.layout.specs.declared.CircleRead.the-variants as CR
+use Rattle.layout.specs.declared.ArcRead.the-variants as AR
+use Rattle.layout.proofs.Laws.{can-be, slot-inside, look-clear}
+use Rattle.layout.proofs.Runs.{components-length, all-append}
+use Rattle.layout.proofs.Accepted.{all-in}
+
+-- ---- a part and its slot
+
+-- component j of the shape from a slot on stands j slots further
+abbrev At : Kind → List Float → ℕ → ℕ → Type 0
+At k values at j = getD (components (shapeAt k values at)) j nan ≡ getD values (at + j) nan
+
+part-at : (k : Kind) (values : List Float) (at j : ℕ) → j < sizeOf k → At k values at j
+part-at k values at =
+    let here : getD values at nan ≡ getD values (at + 0) nan = let e : at ≡ at + 0 = omega arith in ap (λ (n : ℕ). getD values n nan) e in
+    by-kind k here
+  where
+    by-kind : (k : Kind) → getD values at nan ≡ getD values (at + 0) nan → (j : ℕ) → j < sizeOf k → At k values at j
+    by-kind K.Point here = let more = below-more (At K.Point values at) in more 1 (more 0 (below-none (At K.Point values at)) here) refl
+    by-kind K.Circle here = let more = below-more (At K.Circle values at) in more 2 (more 1 (more 0 (below-none (At K.Circle values at)) here) refl) refl
+    by-kind K.Arc here = let more = below-more (At K.Arc values at) in more 5 (more 4 (more 3 (more 2 (more 1 (more 0 (below-none (At K.Arc values at)) here) refl) refl) refl) refl) refl
+
+abbrev part : Kind → ℕ → ℕ → Part
+part k i j = record { kind = k; shape = i; place = j }
+
+-- two parts with one slot are one part
+one-part : (l : Layout) (k k′ : Kind) (i i′ j j′ : ℕ) → Has l (part k i j) → Has l (part k′ i′ j′) → slotFor l (part k i j) ≡ slotFor l (part k′ i′ j′) → part k i j ≡ part k′ i′ j′
+one-part l K.Point K.Point i i′ j j′ h h′ e = let a : i ≡ i′ = omega arith in let b : j ≡ j′ = omega arith in rw (a, b)
+one-part l K.Point K.Circle i i′ j j′ h h′ e = absurd (omega arith)
+one-part l K.Point K.Arc i i′ j j′ h h′ e = absurd (omega arith)
+one-part l K.Circle K.Point i i′ j j′ h h′ e = absurd (omega arith)
+one-part l K.Circle K.Circle i i′ j j′ h h′ e = let a : i ≡ i′ = omega arith in let b : j ≡ j′ = omega arith in rw (a, b)
+one-part l K.Circle K.Arc i i′ j j′ h h′ e = absurd (omega arith)
+one-part l K.Arc K.Point i i′ j j′ h h′ e = absurd (omega arith)
+one-part l K.Arc K.Circle i i′ j j′ h h′ e = absurd (omega arith)
+one-part l K.Arc K.Arc i i′ j j′ h h′ e = let a : i ≡ i′ = omega arith in let b : j ≡ j′ = omega arith in rw (a, b)
+
+-- a shape that is counted is read out
+module _ (l : Layout) (values : List Float) (possible : impossible l ≡ false) (long : slotsOf l ≤ length values) where
+  pub reads : (k : Kind) (i : ℕ) → i < countOf k l → Reads k l values i
+  unfolding pointRead circleRead arcRead
+  reads K.Point i h = told-clear _ _ _ (look-clear K.Point l (length values) i possible long h)
+  reads K.Circle i h = told-clear _ _ _ (look-clear K.Circle l (length values) i possible long h)
+  reads K.Arc i h = told-clear _ _ _ (look-clear K.Arc l (length values) i possible long h)
+
+module _ (l : Layout) (values : List Float) (possible : impossible l ≡ false) (long : slotsOf l ≤ length values) where
+  pub read-out : (p : Part) (x : Float) → Has l p → ReadOut l values p x
+  read-out p x h =
+      let inside : slotFor l p < slotsOf l = omega (arith, slot-inside (p .kind) l (p .shape) (h .0), h .1) in
+      let values′ = set values (slotFor l p) x in
+      record {
+        inside = inside;
+        reads = reads l values′ possible (rw length-set long);
+        own = part-at (p .kind) values′ (slotOf (p .kind) l (p .shape)) (p .place) (h .1) ∙ getD-set-same values (slotFor l p) x nan (omega arith);
+        others = λ q g other.
+            part-at (q .kind) values′ (slotOf (q .kind) l (q .shape)) (q .place) (g .1)
+            ∙ getD-set-other values (slotFor l p) (slotFor l q) x nan (λ e. other (one-part l (q .kind) (p .kind) (q .shape) (p .shape) (q .place) (p .place) g h e))
+            ∙ sym (part-at (q .kind) values (slotOf (q .kind) l (q .shape)) (q .place) (g .1));
+      }
+
+-- ---- shapes that stand one after the other
+
+-- a shape is read out where its components stand
+shape-there : (shape : Shape) (values : List Float) (at : ℕ) → ((j : ℕ) → j < sizeOf (kindOf shape) → getD values (at + j) nan ≡ getD (components shape) j nan) → shapeAt (kindOf shape) values at ≡ shape
+shape-there shape values at h = by-shape shape (let e : at ≡ at + 0 = omega arith in ap (λ (n : ℕ). getD values n nan) e) h
+  where
+    by-shape : (shape : Shape) → getD values at nan ≡ getD values (at + 0) nan → ((j : ℕ) → j < sizeOf (kindOf shape) → getD values (at + j) nan ≡ getD (components shape) j nan) → shapeAt (kindOf shape) values at ≡ shape
+    by-shape (point p) here h = rw (here, h 0 (omega arith), h 1 (omega arith))
+    by-shape (circle c) here h = rw (here, h 0 (omega arith), h 1 (omega arith), h 2 (omega arith))
+    by-shape (arc a) here h = rw (here, h 0 (omega arith), h 1 (omega arith), h 2 (omega arith), h 3 (omega arith), h 4 (omega arith), h 5 (omega arith))
+
+module _ {X : Type 0} (make : X → Shape) (k : Kind) (is : (x : X) → kindOf (make x) ≡ k) where
+  size-of : (x : X) → length (components (make x)) ≡ sizeOf k
+  size-of x = components-length (make x) ∙ ap sizeOf (is x)
+
+  all-length : (xs : List X) → length (allComponents (map make xs)) ≡ length xs * sizeOf k
+  all-length [] = sym (zero-mul (sizeOf k))
+  all-length (x ∷ xs) = length-append (components (make x)) (allComponents (map make xs)) ∙ rw (size-of x, all-length xs, suc-mul (length xs) (sizeOf k)) (omega arith)
+
+  -- component j of shape i, whatever follows
+  all-at : (xs : List X) (rest : List Float) (other : X) (i j : ℕ) → i < length xs → j < sizeOf k → getD (allComponents (map make xs) ++ rest) (i * sizeOf k + j) nan ≡ getD (components (make (getD xs i other))) j nan
+  all-at [] rest other i j h b = absurd (omega arith)
+  all-at (x ∷ xs) rest other zero j h b =
+      rw (zero-mul, zero-add, append-assoc) (List·getD-append (components (make x)) (allComponents (map make xs) ++ rest) nan j (omega (arith, size-of x)))
+  all-at (x ∷ xs) rest other (suc i) j h b =
+      let e : suc i * sizeOf k + j ≡ length (components (make x)) + (i * sizeOf k + j) = rw (size-of x, suc-mul i (sizeOf k)) (omega arith) in
+      rw (e, append-assoc, getD-append-add (components (make x)) (allComponents (map make xs) ++ rest) (i * sizeOf k + j) nan) (all-at xs rest other i j (omega arith) b)
+
+  -- shape i of those that stand between a front and a rest
+  shape-read : (front rest values : List Float) (xs : List X) (at : ℕ) (other : X) (i : ℕ) → i < length xs → at ≡ length front + i * sizeOf k
+      → ((j : ℕ) → j < sizeOf k → getD values (at + j) nan ≡ getD (front ++ (allComponents (map make xs) ++ rest)) (at + j) nan) → shapeAt k values at ≡ make (getD xs i other)
+  shape-read front rest values xs at other i h e there =
+      rw (← is (getD xs i other)) (shape-there (make (getD xs i other)) values at (λ j b.
+      let b′ : j < sizeOf k = rw (ap sizeOf (is (getD xs i other))) at b in
+      let e′ : at + j ≡ length front + (i * sizeOf k + j) = omega arith in
+      there j b′ ∙ rw (e′, getD-append-add front (allComponents (map make xs) ++ rest) (i * sizeOf k + j) nan) (all-at xs rest other i j h b′)))
+
+-- ---- what was pushed is read out
+module _ (next : ℕ) (ids : List ℕ) (values : List Float) (ps : List Point) (cs : List Circle) (xs : List Arc) (room : Room (state empty next ids values) (length ps) (length cs) (length xs)) where
+  abbrev last : State
+  last = run (runOf ps cs xs) (state empty next ids values)
+
+  abbrev l : Layout
+  l = last .layout
+
+  known : AllIn (state empty next ids values) ps cs xs
+  known = all-in next ids values ps cs xs room
+
+  points-are : l .points ≡ length ps
+  points-are = ap (λ (z : Layout). z .points) (known .layout-is)
+
+  circles-are : l .circles ≡ length cs
+  circles-are = ap (λ (z : Layout). z .circles) (known .layout-is)
+
+  arcs-are : l .arcs ≡ length xs
+  arcs-are = ap (λ (z : Layout). z .arcs) (known .layout-is)
+
+  possible : impossible l ≡ false
+  possible = rw (known .layout-is) (can-be _ (record { counts = record { points = room .points; circles = room .circles; arcs = room .arcs }; circles-late = λ h. omega arith; arcs-late = λ h. omega arith }))
+
+  long : slotsOf l ≤ length (last .values)
+  long = omega (arith, points-are, circles-are, arcs-are, room .in-values, known .all-laid .values-length)
+
+  -- the slots hold the components, however they are grouped
+  there : (k : Kind) (i : ℕ) (all : List Float) → i < countOf k l → allComponents (shapesOf ps cs xs) ≡ all → (j : ℕ) → j < sizeOf k → getD (last .values) (slotOf k l i + j) nan ≡ getD all (slotOf k l i + j) nan
+  there k i all h e j b = known .all-laid .value-at (slotOf k l i + j) (omega (arith, slot-inside k l i h)) ∙ ap (λ (z : List Float). getD z (slotOf k l i + j) nan) e
+
+  grouped : allComponents (shapesOf ps cs xs) ≡ allComponents (map point ps) ++ (allComponents (map circle cs) ++ allComponents (map arc xs))
+  grouped = all-append (map point ps) (map circle cs ++ map arc xs) ∙ rw (all-append (map circle cs) (map arc xs)) refl
+
+  last-grouped : allComponents (map point ps) ++ (allComponents (map circle cs) ++ allComponents (map arc xs)) ≡ (allComponents (map point ps) ++ allComponents (map circle cs)) ++ (allComponents (map arc xs) ++ [])
+  last-grouped = rw (append-assoc, append-nil) refl
+
+  pub read-back : ReadBack last ps cs xs
+  read-back = record {
+    points = λ i other h.
+        let c : i < l .points = omega (arith, points-are) in
+        let e = shape-read point K.Point (λ p. refl) [] _ (last .values) ps (slotOf K.Point l i) other i h (omega arith) (there K.Point i _ c grouped) in
+        reads l (last .values) possible long K.Point i c ∙ ap PR.Found (cc e);
+    circles = λ i other h.
+        let c : i < l .circles = omega (arith, circles-are) in
+        let n = all-length point K.Point (λ p. refl) ps in
+        let e = shape-read circle K.Circle (λ c. refl) (allComponents (map point ps)) _ (last .values) cs (slotOf K.Circle l i) other i h (omega (arith, points-are)) (there K.Circle i _ c grouped) in
+        reads l (last .values) possible long K.Circle i c ∙ ap CR.Found (cc e);
+    arcs = λ i other h.
+        let c : i < l .arcs = omega (arith, arcs-are) in
+        let n = all-length point K.Point (λ p. refl) ps in
+        let m = all-length circle K.Circle (λ c. refl) cs in
+        let s = length-append (allComponents (map point ps)) (allComponents (map circle cs)) in
+        let e = shape-read arc K.Arc (λ a. refl) (allComponents (map point ps) ++ allComponents (map circle cs)) [] (last .values) xs (slotOf K.Arc l i) other i h (omega (arith, points-are, circles-are)) (there K.Arc i _ c (grouped ∙ last-grouped)) in
+        reads l (last .values) possible long K.Arc i c ∙ ap AR.Found (cc e);
+  }

@@ -1,0 +1,155 @@
+-- After any run from an empty layout the slots hold the counter's numbers in order and the components of the shapes that were taken, and nothing past them has changed.
+-- A push that is taken lays its ids and components right after the slots so far; one that is refused changes nothing. Assumes nothing.
+use mathlib.Core.Path.{_≡_, refl, sym, _∙_, ap}
+use Prim.Native.Nat.{ℕ, _+_, _≤_, _<_}
+use native.Mathlib.Omega.{arith}
+use mathlib.Core.List.{List, [], _∷_, _++_, append-assoc, append-nil}
+use lib.ListN.{length, drop, getD, length-append, length-drop, List·getD-append}
+use lib.Seq.{drop-at}
+use lib.Ieee.{Float, nan}
+use Rattle.layout.specs.declared.Kind.{Kind}
+use Rattle.layout.specs.declared.Kind.the-variants as K
+use Rattle.layout.specs.declared.Layout.{Layout}
+use Rattle.layout.specs.Slots.{Shape, point, circle, arc, kindOf, components, sizeOf, countOf, slotsOf, withOne, empty}
+use Rattle.layout.specs.Refusals.{doneTests}
+use Rattle.layout.specs.Push.{State, state, over, onward, testsIn, filled, stepped}
+use Rattle.layout.specs.Run.{Act, push, done, act, takes, run, taken, allComponents, howMany, Laid}
+use Rattle.layout.proofs.Onward.{length-onward, getD-onward, onward-add, over-front}
+use Rattle.layout.proofs.Told.{told-pair, told-one}
+use Rattle.layout.proofs.Laws.{Fits, fits}
+
+-- ---- shapes
+
+pub components-length : (shape : Shape) → length (components shape) ≡ sizeOf (kindOf shape)
+components-length (point p) = refl
+components-length (circle c) = refl
+components-length (arc a) = refl
+
+pub all-append : (xs ys : List Shape) → allComponents (xs ++ ys) ≡ allComponents xs ++ allComponents ys
+all-append [] ys = refl
+all-append (x ∷ xs) ys = rw (all-append xs ys) (sym (append-assoc (components x) (allComponents xs) (allComponents ys)))
+
+pub many-append : (k : Kind) (xs ys : List Shape) → howMany k (xs ++ ys) ≡ howMany k xs + howMany k ys
+many-append k [] ys = omega arith
+many-append k (x ∷ xs) ys = rw (many-append k xs ys) (omega arith)
+
+pub slots-more : (k : Kind) (l : Layout) → slotsOf (withOne k l) ≡ slotsOf l + sizeOf k
+slots-more K.Point l = omega arith
+slots-more K.Circle l = omega arith
+slots-more K.Arc l = omega arith
+
+count-more : (k : Kind) (shape : Shape) (l : Layout) → countOf k (withOne (kindOf shape) l) ≡ countOf k l + howMany k (shape ∷ [])
+count-more K.Point (point p) l = refl
+count-more K.Point (circle c) l = omega arith
+count-more K.Point (arc a) l = omega arith
+count-more K.Circle (point p) l = omega arith
+count-more K.Circle (circle c) l = refl
+count-more K.Circle (arc a) l = omega arith
+count-more K.Arc (point p) l = omega arith
+count-more K.Arc (circle c) l = omega arith
+count-more K.Arc (arc a) l = refl
+
+count-stepped : (k : Kind) (l : Layout) → countOf k (stepped l) ≡ countOf k l
+count-stepped K.Point l = refl
+count-stepped K.Circle l = refl
+count-stepped K.Arc l = refl
+
+-- ---- what a run keeps
+
+-- the slices in one piece: the ids and the components so far, and the rest as it was
+pub record Kept (first : State) (shapes : List Shape) (s : State) : Type 0 where
+  pub counts : (k : Kind) → countOf k (s .layout) ≡ howMany k shapes
+  pub slots : length (allComponents shapes) ≡ slotsOf (s .layout)
+  pub next-is : s .next ≡ first .next + length (allComponents shapes)
+  pub ids-are : s .ids ≡ onward (first .next) (length (allComponents shapes)) ++ drop (length (allComponents shapes)) (first .ids)
+  pub values-are : s .values ≡ allComponents shapes ++ drop (length (allComponents shapes)) (first .values)
+  pub in-ids : length (allComponents shapes) ≤ length (first .ids)
+  pub in-values : length (allComponents shapes) ≤ length (first .values)
+
+module _ (first : State) where
+  -- the lengths are as they were
+  pub ids-length : (xs : List Shape) (s : State) → Kept first xs s → length (s .ids) ≡ length (first .ids)
+  ids-length xs s h = rw (h .ids-are) (simp (length-append, length-onward, length-drop) (omega (arith, h .in-ids)))
+
+  pub values-length : (xs : List Shape) (s : State) → Kept first xs s → length (s .values) ≡ length (first .values)
+  values-length xs s h = rw (h .values-are) (simp (length-append, length-drop) (omega (arith, h .in-values)))
+
+  ids-more : (gs vs : List Float) → over (onward (first .next) (length gs) ++ drop (length gs) (first .ids)) (length gs) (onward (first .next + length gs) (length vs)) ≡ onward (first .next) (length (gs ++ vs)) ++ drop (length (gs ++ vs)) (first .ids)
+  ids-more gs vs =
+      over-front (onward (first .next) (length gs)) (onward (first .next + length gs) (length vs)) (first .ids) (length gs) (length-onward (first .next) (length gs))
+      ∙ rw (length-append gs vs, onward-add (first .next) (length gs) (length vs), length-onward (first .next + length gs) (length vs)) refl
+
+  -- a push that is taken
+  pub kept-filled : (shape : Shape) (xs : List Shape) (s : State) → Kept first xs s → Fits (kindOf shape) (s .layout) (s .next) (length (s .ids)) (length (s .values))
+      → Kept first (xs ++ (shape ∷ [])) (filled (kindOf shape) (components shape) s)
+  kept-filled shape xs s h f =
+      let vs = components shape in
+      let gs = allComponents xs in
+      let n = components-length shape in
+      let e : allComponents (xs ++ (shape ∷ [])) ≡ gs ++ vs = all-append xs (shape ∷ []) ∙ ap (λ (z : List Float). gs ++ z) (append-nil vs) in
+      record {
+        counts = λ k. count-more k shape (s .layout) ∙ rw (h .counts k) (sym (many-append k xs (shape ∷ [])));
+        slots = rw (e, length-append gs vs, h .slots, n) (sym (slots-more (kindOf shape) (s .layout)));
+        next-is = rw (e, length-append gs vs) (omega (arith, h .next-is));
+        ids-are = rw (e, ← h .slots, h .ids-are, h .next-is) (ids-more gs vs);
+        values-are = rw (e, ← h .slots, h .values-are) (over-front gs vs (first .values) (length gs) refl ∙ rw (length-append gs vs) refl);
+        in-ids = rw (e, length-append gs vs) (omega (arith, h .slots, n, f .in-ids, ids-length xs s h));
+        in-values = rw (e, length-append gs vs) (omega (arith, h .slots, n, f .in-values, values-length xs s h));
+      }
+
+  kept-stepped : (xs : List Shape) (s : State) → Kept first xs s → Kept first xs (state (stepped (s .layout)) (s .next) (s .ids) (s .values))
+  kept-stepped xs s h = record {
+    counts = λ k. count-stepped k (s .layout) ∙ h .counts k;
+    slots = h .slots;
+    next-is = h .next-is;
+    ids-are = h .ids-are;
+    values-are = h .values-are;
+    in-ids = h .in-ids;
+    in-values = h .in-values;
+  }
+
+  pub kept-act : (a : Act) (xs : List Shape) (s : State) → Kept first xs s → Kept first (xs ++ takes a s) (act a s)
+  kept-act (push shape) xs s h =
+      told-pair (λ ys z. Kept first (xs ++ ys) z) _ _ (testsIn (kindOf shape) s) _ _ (λ r. rw append-nil h) (λ c. kept-filled shape xs s h (fits _ _ _ _ _ c))
+  kept-act done xs s h =
+      told-one (λ l. Kept first (xs ++ []) (state l (s .next) (s .ids) (s .values))) _ (doneTests (s .layout)) _ (λ r. rw append-nil h) (λ c. rw append-nil (kept-stepped xs s h))
+
+  pub kept-run : (acts : List Act) (xs : List Shape) (s : State) → Kept first xs s → Kept first (xs ++ taken acts s) (run acts s)
+  unfolding run taken
+  kept-run [] xs s h = rw append-nil h
+  kept-run (a ∷ acts) xs s h = rw (← append-assoc) (kept-run acts (xs ++ takes a s) (act a s) (kept-act a xs s h))
+
+  -- what is kept, slot by slot
+  pub kept-laid : (xs : List Shape) (s : State) → Kept first xs s → Laid first xs s
+  kept-laid xs s h =
+      let gs = allComponents xs in
+      let ids-at : (i : ℕ) → i < slotsOf (s .layout) → getD (s .ids) i 0 ≡ first .next + i
+      = λ i b. rw (h .ids-are, List·getD-append (onward (first .next) (length gs)) (drop (length gs) (first .ids)) 0 i (rw length-onward (omega (arith, h .slots)))) (getD-onward (first .next) (length gs) i (omega (arith, h .slots))) in
+      record {
+        counts = h .counts;
+        slots = sym (h .slots);
+        next-is = omega (arith, h .next-is, h .slots);
+        id-at = ids-at;
+        distinct = λ i j a b e. omega (arith, ids-at i a, ids-at j b);
+        value-at = λ i b. rw (h .values-are) (List·getD-append gs (drop (length gs) (first .values)) nan i (omega (arith, h .slots)));
+        ids-rest = rw (← h .slots, h .ids-are) (drop-at (onward (first .next) (length gs)) (drop (length gs) (first .ids)) (length gs) (length-onward (first .next) (length gs)));
+        values-rest = rw (← h .slots, h .values-are) (drop-at gs (drop (length gs) (first .values)) (length gs) refl);
+        ids-length = ids-length xs s h;
+        values-length = values-length xs s h;
+      }
+
+none : (k : Kind) → countOf k empty ≡ 0
+none K.Point = refl
+none K.Circle = refl
+none K.Arc = refl
+
+module _ (next : ℕ) (ids : List ℕ) (values : List Float) where
+  pub kept-empty : Kept (state empty next ids values) [] (state empty next ids values)
+  kept-empty = record { counts = none; slots = refl; next-is = omega arith; ids-are = refl; values-are = refl; in-ids = omega arith; in-values = omega arith }
+
+  pub kept : (acts : List Act) → Kept (state empty next ids values) (taken acts (state empty next ids values)) (run acts (state empty next ids values))
+  kept acts = kept-run (state empty next ids values) acts [] (state empty next ids values) kept-empty
+
+  -- after any run, of the shapes that were taken
+  pub laid : (acts : List Act) → Laid (state empty next ids values) (taken acts (state empty next ids values)) (run acts (state empty next ids values))
+  laid acts = kept-laid _ _ _ (kept acts)

@@ -1,0 +1,2 @@
+-- What the proofs of the pushes with the counter lent share.
+mod Walk

@@ -1,0 +1,7 @@
+pub mod Slots
+pub mod Refusals
+pub mod Push
+pub mod Look
+pub mod Run
+pub mod Parts
+pub mod Claims
