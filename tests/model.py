@@ -16,17 +16,11 @@ if hasattr(sys, "set_int_max_str_digits"):
 
 
 def beside(name):
-    """A script that stands beside this one, as a module. It is given no arguments, so that its own program only stops."""
+    """A script that stands beside this one, as a module (Python has a module of its own called numbers)."""
     path = os.path.join(os.path.dirname(os.path.abspath(__file__)), name + ".py")
     spec = importlib.util.spec_from_file_location("beside_" + name, path)
     module = importlib.util.module_from_spec(spec)
-    given, sys.argv = sys.argv, [path]
-    try:
-        spec.loader.exec_module(module)
-    except SystemExit:
-        pass
-    finally:
-        sys.argv = given
+    spec.loader.exec_module(module)
     return module
 
 

@@ -470,4 +470,5 @@ def main():
         sys.exit(__doc__.rstrip())
 
 
-main()
+if __name__ == "__main__":
+    main()
