@@ -1,0 +1,38 @@
+-- `batch::size_of` meets its contract. The loop's invariant: the number of the line is the one so far with the digits left behind it.
+-- The measure is what is left of the line. Assumes nothing.
+use mathlib.Core.Path.{_≡_, sym, _∙_}
+use Prim.Native.Nat.{_-_}
+use native.Mathlib.Omega.{arith}
+use lib.ListN.{length, drop}
+use borrow.Author.Needs.{needs}
+use borrow.Author.Tests.{le-leb, lt-leb}
+use Rattle.batch.specs.Header.{sizeAfter, sizeOf}
+use Rattle.batch.proofs.Laws.{size-more, size-end}
+use Rattle.batch.proofs.size_of.Statement.{statement}
+use Rattle.batch.proofs.size_of.Tie as tie
+
+abbrev Inv-loop : tie.InvT-loop
+Inv-loop line n₀ i₀ n i = sizeOf line ≡ sizeAfter n (drop i line)
+
+abbrev μ-loop : tie.MeasureT-loop
+μ-loop line n₀ i₀ n i = length line - i
+
+returns : tie.Need-returns Inv-loop μ-loop
+unfolding sizeOf
+returns c = rw (le-leb _ _ (c .if1 .taken))
+
+loop-holds : tie.Need-loop-holds Inv-loop μ-loop
+unfolding sizeOf
+loop-holds c = rw (lt-leb _ _ (c .if1 .left))
+
+loop-again : tie.Need-loop-again Inv-loop μ-loop
+loop-again c =
+    let l = c .before .before .before .loop in l .inv ∙ size-more (c .before .before .before .before .before .before .args .line .now) (l .n) (l .i) (omega arith) ∙ rw (c .one-more .ensures)
+
+returns-2 : tie.Need-returns-2 Inv-loop μ-loop
+returns-2 c =
+    let l = c .before .loop in
+    sym (l .inv ∙ size-end (c .before .before .before .before .args .line .now) (l .n) (l .i) (omega arith))
+
+pub size-of-spec : {M : Type 1} → statement M
+size-of-spec = tie.close (tie.spec Inv-loop μ-loop returns loop-holds (λ c. search needs) (λ c κs. search needs) (λ c. omega arith) (λ c. omega arith) loop-again returns-2)

@@ -1,0 +1,81 @@
+// The header line of a batch's block: how the text that follows is read, and its length.
+ghost use mathlib.Core.Path.{_≡_};
+ghost use lib.ListN.{drop};
+ghost use Rattle.text.specs.Text.{starts};
+ghost use Rattle.batch.specs.Header.{oneMore, sizeAfter, sizeOf, headerOf};
+use text::Stand;
+
+// The most bytes of a text, and what stands for any number that is larger.
+pub const MOST: usize = 65_536;
+
+const TOO_MANY: usize = 65_537;
+
+// Where the digits begin.
+const DIGITS_AT: usize = 5;
+
+// What a header line says: a text of so many bytes by the plain reading, by the whole reading, or nothing.
+pub enum Header {
+    Case(usize),
+    List(usize),
+    Bad,
+}
+
+// Whether a line starts with a word.
+fn begins(line: &[u8], w: &[u8]) -> bool
+    ensures { λ r. ⌜ r ≡ starts (now (w .entry)) (now (line .entry)) ⌝ }
+{
+    let s = text::word(line, Stand::At(0), w);
+    let Stand::At(_) = s else {
+        return false;
+    };
+    true
+}
+
+// A number with one digit more.
+fn one_more(n: usize, b: u8) -> usize
+    ensures { λ r. ⌜ r ≡ oneMore n b ⌝ }
+{
+    if MOST < n {
+        return TOO_MANY;
+    }
+    if b < b'0' {
+        return TOO_MANY;
+    }
+    if b'9' < b {
+        return TOO_MANY;
+    }
+    n * 10 + ((b - 48) as usize)
+}
+
+// The number that the digits of a line write.
+fn size_of(line: &[u8]) -> usize
+    ensures { λ r. ⌜ r ≡ sizeOf (now (line .entry)) ⌝ }
+{
+    if line.len() <= DIGITS_AT {
+        return TOO_MANY;
+    }
+    let mut n = 0;
+    let mut i = DIGITS_AT;
+    while i < line.len() {
+        n = one_more(n, line[i]);
+        i += 1;
+    }
+    n
+}
+
+// What a header line says, from its bytes without the new line.
+pub fn read_header(line: &[u8]) -> Header
+    ensures { λ r. ⌜ r ≡ headerOf (now (line .entry)) ⌝ }
+{
+    let n = size_of(line);
+    if MOST < n {
+        return Header::Bad;
+    }
+    if begins(line, b"CASE ") {
+        return Header::Case(n);
+    }
+    if begins(line, b"LIST ") {
+        return Header::List(n);
+    }
+    Header::Bad
+}

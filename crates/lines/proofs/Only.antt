@@ -1,0 +1,27 @@
+-- The promise of each public function, as its source states it, determines the answer and what the buffer holds at last: each is an
+-- equation with what the entry values give. Assumes nothing.
+use mathlib.Core.Path.{_≡_}
+use mathlib.Core.List.{List}
+use Prim.Native.Nat.{ℕ}
+use borrow.Fn.Kinds.{endedOf}
+use Rattle.ground.proofs.Determined.{Settled, by-equation}
+use Rattle.lines.specs.declared.Place.{Place}
+use Rattle.lines.specs.Rail.{Prints}
+use Rattle.lines.proofs.first_line.Kinds as first-line-kinds
+use Rattle.lines.proofs.first_line.Reads as first-line
+use Rattle.lines.proofs.record_line.Kinds as record-line-kinds
+use Rattle.lines.proofs.record_line.Reads as record-line
+
+-- two answers, and two buffers
+module _ {line d v w : List ℕ} {at : ℕ} {x y : Place} (p : Prints line d at x v) (q : Prints line d at y w) where
+  same-answer : x ≡ y
+  same-answer = by-equation (p .told) (q .told)
+
+  same-buffer : v ≡ w
+  same-buffer = by-equation (p .buffer) (q .buffer)
+
+pub first-line-only : Settled (endedOf 1 first-line-kinds.ps first-line-kinds.r) first-line.Post
+first-line-only κs a x y v w p q = (same-answer p q, λ j. (tt, (same-buffer p q j, (tt, tt))))
+
+pub record-line-only : Settled (endedOf 3 record-line-kinds.ps record-line-kinds.r) record-line.Post
+record-line-only κs a x y v w p q = (same-answer p q, λ j. (tt, (tt, (tt, (same-buffer p q j, (tt, tt))))))

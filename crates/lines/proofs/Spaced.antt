@@ -1,0 +1,131 @@
+-- The laws of the words of a line. Assumes nothing.
+use mathlib.Core.Path.{_≡_, refl, sym, ap, _∙_}
+use mathlib.Core.List.{List, [], _∷_, _++_, append-assoc, append-nil}
+use Prim.Native.Nat.{ℕ, zero, suc, _+_, _-_, _/_, _≤_, _<_}
+use native.Mathlib.Omega.{arith}
+use lib.ListN.{length, take, drop, length-append, length-drop, drop-of-length-le}
+use lib.Seq.{take-all, take-nil, take-at}
+use borrow.Author.Tests.{eq-eqb, ne-eqb}
+use Rattle.ground.specs.Words.{bytes}
+use Rattle.print.specs.Print.{lastDigits, hexOf, decimalOf, digitsOf, width, zeros, mostDigits}
+use Rattle.print.specs.declared.Digits.{Digits}
+use Rattle.record.specs.declared.Record.{Record}
+use Rattle.record.specs.declared.kinds.Kind.{Kind}
+use Rattle.record.specs.Kinds.{kindAt, none, pair}
+use Rattle.record.specs.Entry.{startOf, lenOf, named, upTo, entryOf}
+use Rattle.lines.specs.declared.words.Part.{Part}
+use Rattle.lines.specs.Lines.{blank, newline, spaced, goodLine, refusedLine, thirdWord, thirdOf, numbersOf, lineOf}
+use Rattle.lines.specs.Rail.{Lies}
+
+-- words behind words
+pub spaced-append : (a b : List (List ℕ)) → spaced (a ++ b) ≡ spaced a ++ spaced b
+unfolding spaced
+spaced-append [] b = refl
+spaced-append (w ∷ a) b = rw (spaced-append a b, append-assoc w (spaced a) (spaced b))
+
+-- a word behind a blank
+pub word-is : (w : List ℕ) → (blank ∷ []) ++ w ≡ spaced (w ∷ [])
+unfolding spaced
+word-is w = rw (append-nil w)
+
+-- one label more
+pub up-to-more : {A : Type 0} (n : ℕ) (f : ℕ → A) → upTo (n + 1) f ≡ upTo n f ++ (f n ∷ [])
+up-to-more zero f = refl
+up-to-more (suc n) f =
+    let e : suc n + 1 ≡ suc (n + 1) = omega arith in
+    rw e (ap (λ l. f zero ∷ l) (up-to-more n (λ k. f (suc k))))
+
+-- ---- digits
+
+digits-length : (base k n : ℕ) → length (lastDigits base k n) ≡ k
+unfolding lastDigits
+digits-length base zero n = refl
+digits-length base (suc k) n = simp (length-append, digits-length base k (n / base)) (omega arith)
+
+-- the digits of a number are the first bytes of their field
+pub field-first : (n : ℕ) (r : Digits) → r ≡ digitsOf n → take (r .len) (r .bytes) ≡ decimalOf n
+unfolding digitsOf decimalOf
+field-first n r e = rw e (take-at (lastDigits 10 (width n) n) (zeros (mostDigits - width n)) (width n) (digits-length 10 (width n) n))
+
+-- ---- the part of a text that lies inside it
+
+pub past : (size start len : ℕ) → size ≤ start → Lies size start len (record { start = size; end = size })
+past size start len h =
+    record {
+      ordered = omega arith;
+      inside = omega arith;
+      is = λ text e. rw (drop-of-length-le text {i = size} (omega arith), drop-of-length-le text {i = start} (omega arith), take-nil {0} {A = ℕ} (size - size), take-nil {0} {A = ℕ} len);
+    }
+
+pub cut : (size start len : ℕ) → start < size → size - start ≤ len → Lies size start len (record { start = start; end = size })
+cut size start len h k =
+    record {
+      ordered = omega arith;
+      inside = omega arith;
+      is = λ text e. take-all (size - start) (drop start text) (omega (arith, length-drop start text)) ∙ sym (take-all len (drop start text) (omega (arith, length-drop start text)));
+    }
+
+pub whole : (size start len : ℕ) → start + len ≤ size → Lies size start len (record { start = start; end = start + len })
+whole size start len h =
+    let e : start + len - start ≡ len = omega arith in
+    record { ordered = omega arith; inside = omega arith; is = λ text f. rw e }
+
+-- the label that the part is
+pub label-is : (text : List ℕ) (r : Record) (q : ℕ) {start len : ℕ} (l : Part) → start ≡ startOf r q → len ≡ lenOf r q → Lies (length text) start len l
+    → spaced (take (l .end - l .start) (drop (l .start) text) ∷ []) ≡ spaced (named text r q ∷ [])
+label-is text r q l e f h = rw (h .is text refl, e, f)
+
+-- ---- lines
+
+-- one label more
+pub label-more : (a : List ℕ) (f : ℕ → List ℕ) (q : ℕ) → a ++ spaced (upTo q f) ++ spaced (f q ∷ []) ≡ a ++ spaced (upTo (q + 1) f)
+label-more a f q = rw (up-to-more q f, spaced-append (upTo q f) (f q ∷ []), append-assoc a (spaced (upTo q f)) (spaced (f q ∷ [])))
+
+-- words in three parts, and in two, after a first one
+three-parts : (w : List ℕ) (a b c : List (List ℕ)) (end : List ℕ) → w ++ spaced a ++ spaced b ++ spaced c ++ end ≡ w ++ spaced (a ++ b ++ c) ++ end
+three-parts w a b c end = simp (spaced-append, append-assoc)
+
+two-parts : (w : List ℕ) (a b : List (List ℕ)) (end : List ℕ) → w ++ spaced a ++ spaced b ++ end ≡ w ++ spaced (a ++ b) ++ end
+two-parts w a b end = simp (spaced-append, append-assoc)
+
+pub good-is : (i g e : ℕ)
+    → bytes "instructions" ++ spaced (decimalOf i ∷ []) ++ spaced (bytes "guesses" ∷ decimalOf g ∷ []) ++ spaced (bytes "end" ∷ decimalOf e ∷ []) ++ newline
+    ≡ goodLine i g e
+good-is i g e = three-parts (bytes "instructions") (decimalOf i ∷ []) (bytes "guesses" ∷ decimalOf g ∷ []) (bytes "end" ∷ decimalOf e ∷ []) newline
+
+pub refused-is : (n p : ℕ) → bytes "refused" ++ spaced (decimalOf n ∷ []) ++ spaced (decimalOf p ∷ []) ++ newline ≡ refusedLine n p
+refused-is n p = two-parts (bytes "refused") (decimalOf n ∷ []) (decimalOf p ∷ []) newline
+
+-- the numbers, by their sort
+module _ (n x y : ℕ) where
+  pub no-number : n ≡ none → newline ≡ spaced (numbersOf n x y) ++ newline
+  unfolding spaced
+  no-number e = rw (eq-eqb n none e)
+
+  pub two-numbers : (n ≡ none → ⊥) → n ≡ pair → spaced (hexOf x ∷ []) ++ spaced (hexOf y ∷ []) ++ newline ≡ spaced (numbersOf n x y) ++ newline
+  two-numbers f e = rw (ne-eqb n none f, eq-eqb n pair e) (two-parts [] (hexOf x ∷ []) (hexOf y ∷ []) newline)
+
+  pub one-number : (n ≡ none → ⊥) → (n ≡ pair → ⊥) → spaced (hexOf x ∷ []) ++ newline ≡ spaced (numbersOf n x y) ++ newline
+  one-number f e = rw (ne-eqb n none f, ne-eqb n pair e)
+
+-- the word of the third byte, by the kind
+module _ (kind third x y : ℕ) (k : Kind) (e : k ≡ kindAt kind) where
+  pub no-third : k .thirds ≡ 0 → spaced (numbersOf (k .number) x y) ++ newline ≡ spaced (thirdOf kind third ++ numbersOf (kindAt kind .number) x y) ++ newline
+  no-third h = rw (← e, eq-eqb (k .thirds) 0 h)
+
+  pub some-third : (k .thirds ≡ 0 → ⊥)
+      → spaced (thirdWord (k .number) third ∷ []) ++ (spaced (numbersOf (k .number) x y) ++ newline) ≡ spaced (thirdOf kind third ++ numbersOf (kindAt kind .number) x y) ++ newline
+  some-third h =
+      rw (← e, ne-eqb (k .thirds) 0 h)
+      (sym (append-assoc (spaced (thirdWord (k .number) third ∷ [])) (spaced (numbersOf (k .number) x y)) newline) ∙ two-parts [] (thirdWord (k .number) third ∷ []) (numbersOf (k .number) x y) newline)
+
+-- a record's line, from its opening and from the third byte's word on
+line-parts : (w : List ℕ) (a b c : List (List ℕ)) (end : List ℕ) → (w ++ spaced a) ++ (spaced (b ++ c) ++ end) ≡ w ++ spaced (a ++ b ++ c) ++ end
+line-parts w a b c end = simp (spaced-append, append-assoc)
+
+pub line-is : (text : List ℕ) (r : Record)
+    → (decimalOf (r .kind) ++ spaced (upTo (r .count) (named text r)))
+    ++ (spaced (thirdOf (r .kind) (r .third) ++ numbersOf (kindAt (r .kind) .number) (r .x) (r .y)) ++ newline)
+    ≡ lineOf (entryOf text r)
+unfolding lineOf entryOf
+line-is text r = line-parts (decimalOf (r .kind)) (upTo (r .count) (named text r)) (thirdOf (r .kind) (r .third)) (numbersOf (kindAt (r .kind) .number) (r .x) (r .y)) newline

@@ -1,0 +1,13 @@
+-- `replay::main` is safe and ends. Nothing has to hold from block to block. The measure is the count of blocks left. Assumes nothing.
+use borrow.Author.Needs.{needs}
+use Rattle.replay.proofs.main.Statement.{statement}
+use Rattle.replay.proofs.main.Tie as tie
+
+abbrev Inv-loop : tie.InvT-loop
+Inv-loop text₀ line₀ left₀ text line left = Unit {0}
+
+abbrev μ-loop : tie.MeasureT-loop
+μ-loop text₀ line₀ left₀ text line left = left
+
+pub main-spec : {M : Type 1} → statement M
+main-spec = tie.close (tie.spec Inv-loop μ-loop (λ c κs. search needs) (λ c. search needs) (λ c. search needs) (λ c. search needs) (λ c κs. search needs) (λ c. search needs) (λ c. search needs) (λ c. search needs) (λ c. search needs) (λ c. search needs))
