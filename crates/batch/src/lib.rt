@@ -1,8 +1,7 @@
 // The header line of a batch's block: how the text that follows is read, and its length.
 ghost use mathlib.Core.Path.{_≡_};
-ghost use lib.ListN.{drop};
 ghost use Rattle.text.specs.Text.{starts};
-ghost use Rattle.batch.specs.Header.{oneMore, sizeAfter, sizeOf, headerOf};
+ghost use Rattle.batch.specs.Header.{oneMore, sizeOf, headerOf};
 use text::Stand;
 
 // The most bytes of a text, and what stands for any number that is larger.

@@ -1,3 +1,4 @@
 pub mod Added
+pub mod Examples
 pub mod Only
 pub mod Spaced

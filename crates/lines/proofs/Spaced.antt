@@ -29,7 +29,7 @@ unfolding spaced
 word-is w = rw (append-nil w)
 
 -- one label more
-pub up-to-more : {A : Type 0} (n : ℕ) (f : ℕ → A) → upTo (n + 1) f ≡ upTo n f ++ (f n ∷ [])
+up-to-more : {A : Type 0} (n : ℕ) (f : ℕ → A) → upTo (n + 1) f ≡ upTo n f ++ (f n ∷ [])
 up-to-more zero f = refl
 up-to-more (suc n) f =
     let e : suc n + 1 ≡ suc (n + 1) = omega arith in

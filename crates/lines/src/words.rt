@@ -18,6 +18,9 @@ use record::kinds::Kind;
 // The first of the words that a third byte may stand for.
 const FIRST: u8 = 1;
 
+// The label places of a record.
+const LABELS: usize = 4;
+
 // A part of a text, by its start and its end.
 struct Part {
     start: usize,
@@ -97,7 +100,7 @@ fn inside(size: usize, start: usize, len: usize) -> Part
 fn start_of(r: Record, q: usize) -> usize
     ensures { λ n. ⌜ n ≡ startOf r q ⌝ }
 {
-    if 4 <= q {
+    if LABELS <= q {
         return 0;
     }
     let starts = [r.start0, r.start1, r.start2, r.start3];
@@ -108,7 +111,7 @@ fn start_of(r: Record, q: usize) -> usize
 fn len_of(r: Record, q: usize) -> usize
     ensures { λ n. ⌜ n ≡ lenOf r q ⌝ }
 {
-    if 4 <= q {
+    if LABELS <= q {
         return 0;
     }
     let lens = [r.len0, r.len1, r.len2, r.len3];

@@ -1,0 +1,8 @@
+pub mod Laws
+pub mod Agree
+pub mod Drawn
+pub mod Read
+pub mod Order
+pub mod Told
+pub mod Examples
+pub mod Only

@@ -1,0 +1,182 @@
+-- The check of a well formed list: 30 is told nowhere, and one turn of the loop goes on to the next fault of the order behind it. Assumes nothing.
+use mathlib.Core.Path.{_≡_, refl, sym, ap, _∙_, subst}
+use mathlib.Core.Bool.{Bool, true, false}
+use mathlib.Core.Option.{Option, none, some}
+use mathlib.Core.List.{List}
+use Prim.Native.Nat.{ℕ, zero, suc, _+_, _≤_, _<_}
+use native.Mathlib.Nat.{le-refl, lt-irrefl}
+use native.Mathlib.Numerals.{add-one}
+use native.Mathlib.Omega.{arith}
+use lib.ListN.{length, drop, drop-of-length-le, List·getD-eq-default}
+use lib.Seq.{drop-cons}
+use Rattle.refusal.specs.First.{EachBelow, passed, refused, tell, first, lowest, orElse}
+use Rattle.refusal.proofs.Says.{says-so}
+use Rattle.refusal.proofs.Search.{Searched, at, searched, none-iff, stops-here, goes-through}
+use Rattle.record.specs.declared.formed.Formed.the-variants as formed
+use Rattle.record.specs.Decode.{countOf, decodeAt}
+use Rattle.record.specs.Entry.{Entry, noEntry}
+use Rattle.record.specs.Formed.{WellFormed, entries, Malformed, places, malformedTest, verdict, formedOf}
+use Rattle.record.proofs.Told.{says-malformed, passed-iff}
+use Rattle.record.proofs.WellFormed.{well-formed-iff}
+use Rattle.drawing.specs.declared.Checked.the-variants as checked
+use Rattle.drawing.specs.Faults as faults
+use faults.{kindNo, Fault, malformed, behind30, numberOf}
+use Rattle.drawing.specs.Check as check
+use check.{within, twice, wrongLabelTest, noSuchPartTest, withoutGuessTest, test, checkOf, countBelow, countOf as count-of, answer, checkedOf}
+use Rattle.drawing.specs.Drawn.{drawn, placeOr, lowestOr, faultAt}
+use Rattle.drawing.proofs.Drawn.{drawn-length, drawn-kind, entries-drawn, count-kinds}
+
+-- ---- the lowest place, from the number that stands for it
+
+module _ (n : ℕ) (p : ℕ → Bool) where
+  pub lowest-here : (i : ℕ) → i < n → p i ≡ true → EachBelow i (λ j. p j ≡ false) → i ≡ lowestOr n p
+  unfolding lowestOr
+  lowest-here i h e f = sym (ap (λ (o : Option ℕ). placeOr o n) (stops-here p n i h e f))
+
+  pub lowest-nowhere : EachBelow n (λ j. p j ≡ false) → n ≡ lowestOr n p
+  unfolding lowestOr
+  lowest-nowhere f = sym (ap (λ (o : Option ℕ). placeOr o n) (goes-through p n f))
+
+  module _ (i : ℕ) (e : i ≡ lowestOr n p) where
+    is-some : i < n → lowest n p ≡ some i
+    unfolding lowestOr
+    is-some h = go (lowest n p) e
+      where
+        go : (o : Option ℕ) → i ≡ placeOr o n → o ≡ some i
+        go (some j) q = ap some (sym q)
+        go none q = absurd (lt-irrefl n (subst (λ (k : ℕ). k < n) q h))
+
+    is-none : n ≤ i → lowest n p ≡ none
+    unfolding lowestOr
+    is-none h = go (lowest n p) e (searched p (λ j. p j ≡ true) (λ j. says-so) n)
+      where
+        go : (o : Option ℕ) → i ≡ placeOr o n → Searched (λ j. p j ≡ true) n o → o ≡ none
+        go (some j) q (at a) = absurd (lt-irrefl n (omega (arith, a .inside, q, h)))
+        go none q s = refl
+
+-- ---- a turn of the loop
+
+module _ (t : Fault → ℕ → Bool) (n f : ℕ) (h : f < 5) (i : ℕ) (e : i ≡ lowestOr n (t (faultAt f))) where
+  open-up : first (drop f behind30) t n ≡ tell (faultAt f) (lowest n (t (faultAt f))) (first (drop (f + 1) behind30) t n)
+  unfolding first
+  open-up = rw (add-one, drop-cons behind30 f malformed h) refl
+
+  pub stops : i < n → first (drop f behind30) t n ≡ refused (faultAt f) i
+  stops g = open-up ∙ ap (λ (o : Option ℕ). tell (faultAt f) o (first (drop (f + 1) behind30) t n)) (is-some n (t (faultAt f)) i e g)
+
+  pub goes-on : n ≤ i → first (drop f behind30) t n ≡ first (drop (f + 1) behind30) t n
+  goes-on g = open-up ∙ ap (λ (o : Option ℕ). tell (faultAt f) o (first (drop (f + 1) behind30) t n)) (is-none n (t (faultAt f)) i e g)
+
+pub ends : (t : Fault → ℕ → Bool) (n f : ℕ) → 5 ≤ f → first (drop f behind30) t n ≡ passed
+unfolding first
+ends t n f h = rw (drop-of-length-le behind30 h) refl
+
+-- ---- the tests and numbers by their places in the order
+
+module _ (es : List Entry) (f i : ℕ) where
+  pub test-0 : f ≡ 0 → twice es 1 3 i ≡ test es (faultAt f) i
+  test-0 e = rw e refl
+
+  pub test-1 : f ≡ 1 → wrongLabelTest es i ≡ test es (faultAt f) i
+  test-1 e = rw e refl
+
+  pub test-2 : f ≡ 2 → noSuchPartTest es i ≡ test es (faultAt f) i
+  test-2 e = rw e refl
+
+  pub test-3 : f ≡ 3 → twice es 24 25 i ≡ test es (faultAt f) i
+  test-3 e = rw e refl
+
+  pub test-4 : f ≡ 4 → withoutGuessTest es i ≡ test es (faultAt f) i
+  test-4 e = rw e refl
+
+pub number-is : (f : ℕ) → f < 5 → 31 + f ≡ numberOf (faultAt f)
+number-is zero h = refl
+number-is (suc zero) h = refl
+number-is (suc (suc zero)) h = refl
+number-is (suc (suc (suc zero))) h = refl
+number-is (suc (suc (suc (suc zero)))) h = refl
+number-is (suc (suc (suc (suc (suc f))))) h = absurd (omega (arith, h))
+
+-- ---- only 30 is told at the place after the last entry
+
+past : (es : List Entry) → kindNo es (length es) ≡ 0
+past es = ap (λ (e : Entry). e .kind) (List·getD-eq-default es noEntry (le-refl (length es)))
+
+or-none : (o : Option ℕ) → orElse o none ≡ o
+or-none (some i) = refl
+or-none none = refl
+
+lowest-last : (n : ℕ) (p : ℕ → Bool) → p n ≡ false → lowest (suc n) p ≡ lowest n p
+unfolding lowest
+lowest-last n p e = rw e (or-none (lowest n p))
+
+module _ (es : List Entry) where
+  twice-end : (low high : ℕ) → within low high 0 ≡ false → twice es low high (length es) ≡ false
+  unfolding twice
+  twice-end low high e = rw (past es, e) refl
+
+  wrong-label-end : wrongLabelTest es (length es) ≡ false
+  unfolding wrongLabelTest
+  wrong-label-end = rw (past es) refl
+
+  no-such-part-end : noSuchPartTest es (length es) ≡ false
+  unfolding noSuchPartTest
+  no-such-part-end = rw (past es) refl
+
+  without-guess-end : withoutGuessTest es (length es) ≡ false
+  unfolding withoutGuessTest
+  without-guess-end = rw (past es) refl
+
+  shorter : first behind30 (test es) (suc (length es)) ≡ first behind30 (test es) (length es)
+  unfolding first
+  shorter =
+      rw (lowest-last (length es) (twice es 1 3) (twice-end 1 3 refl), lowest-last (length es) (wrongLabelTest es) wrong-label-end, lowest-last (length es) (noSuchPartTest es) no-such-part-end, lowest-last (length es) (twice es 24 25) (twice-end 24 25 refl), lowest-last (length es) (withoutGuessTest es) without-guess-end) refl
+
+-- ---- 30
+
+-- what is told of a list that is not well formed is told by the check
+pub told-30 : (es : List Entry) (number place : ℕ) → formedOf es ≡ formed.Refused number place → checked.Refused number place ≡ checkedOf es
+unfolding checkedOf checkOf first formedOf
+told-30 es number place e = go (lowest (places es) (malformedTest es)) e
+  where
+    go : (o : Option ℕ) → verdict o ≡ formed.Refused number place → checked.Refused number place ≡ answer es (tell malformed o (first behind30 (test es) (places es)))
+    go (some j) q = cc
+    go none q = absurd (never q)
+      where
+        never : formed.WellFormed ≡ formed.Refused number place → ⊥
+        never r = let z : _≡_ {A = ℕ} 0 1 = cc in omega arith
+
+module _ (text bs : List ℕ) (w : WellFormed text bs) where
+  -- the check of a well formed list is that of the order behind 30, over its records
+  pub check-is : checkOf (drawn text bs) ≡ first behind30 (test (drawn text bs)) (countOf bs)
+  unfolding checkOf first
+  check-is =
+      let es = drawn text bs in
+      let never : lowest (places es) (malformedTest es) ≡ none = subst (λ (l : List Entry). lowest (places l) (malformedTest l) ≡ none) (entries-drawn text bs w)
+      (none-iff (malformedTest (entries text bs)) (Malformed (entries text bs)) (says-malformed (entries text bs)) (places (entries text bs)) .1
+      (passed-iff (entries text bs) .0 (well-formed-iff text bs .1 w))) in
+      ap (λ (o : Option ℕ). tell malformed o (first behind30 (test es) (places es))) never
+      ∙ shorter es
+      ∙ ap (first behind30 (test es)) (drawn-length text bs)
+
+  -- a fault behind 30 that is told
+  pub told-behind : (f i : ℕ) → f < 5 → checkOf (drawn text bs) ≡ refused (faultAt f) i → checked.Refused (31 + f) i ≡ checkedOf (entries text bs)
+  unfolding checkedOf
+  told-behind f i h e = rw (entries-drawn text bs w, e, number-is f h) refl
+
+  count-is : (low high n : ℕ) → n ≡ countBelow (λ i. decodeAt bs i .kind) low high (countOf bs) → n ≡ count-of (drawn text bs) low high
+  count-is low high n e =
+      let es = drawn text bs in
+      e
+      ∙ sym (ap (countBelow (λ i. decodeAt bs i .kind) low high) (drawn-length text bs))
+      ∙ sym (count-kinds (kindNo es) (λ i. decodeAt bs i .kind) low high (length es) (drawn-kind text bs))
+
+  -- nothing that is told
+  pub told-none : (p c a r : ℕ) → checkOf (drawn text bs) ≡ passed
+      → p ≡ countBelow (λ i. decodeAt bs i .kind) 1 1 (countOf bs)
+      → c ≡ countBelow (λ i. decodeAt bs i .kind) 2 2 (countOf bs)
+      → a ≡ countBelow (λ i. decodeAt bs i .kind) 3 3 (countOf bs)
+      → r ≡ countBelow (λ i. decodeAt bs i .kind) 4 23 (countOf bs)
+      → checked.Passed p c a r ≡ checkedOf (entries text bs)
+  unfolding checkedOf
+  told-none p c a r e ep ec ea er = rw (entries-drawn text bs w, e, count-is 1 1 p ep, count-is 2 2 c ec, count-is 3 3 a ea, count-is 4 23 r er) refl

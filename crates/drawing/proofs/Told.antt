@@ -1,0 +1,59 @@
+-- What is told of a drawing, in document 01's words: the numbers of the faults are apart, so the answer tells which fault the check found. Assumes nothing.
+use mathlib.Core.Path.{_≡_, refl, sym, ap, _∙_}
+use mathlib.Core.Logic.{_↔_}
+use mathlib.Core.List.{List}
+use Prim.Native.Nat.{ℕ, _-_}
+use native.Mathlib.Omega.{arith}
+use lib.ListN.{getD}
+use Rattle.refusal.specs.First.{Answer, passed, refused, Nowhere, Told}
+use Rattle.record.specs.Entry.{Entry}
+use Rattle.record.specs.Formed.{places}
+use Rattle.drawing.specs.declared.Checked.{Checked}
+use Rattle.drawing.specs.declared.Checked.the-variants as checked
+use Rattle.drawing.specs.Faults as faults
+use faults.{Fault, malformed, declared-twice, wrong-label, no-such-part, guessed-twice, without-guess, order, numberOf, Holds}
+use Rattle.drawing.specs.Check.{checkOf, countOf, answer, checkedOf}
+use Rattle.drawing.proofs.Agree.{check-refuses, check-passes}
+
+-- a fault back from its number
+fault-back : (f : Fault) → getD order (numberOf f - 30) malformed ≡ f
+fault-back malformed = refl
+fault-back declared-twice = refl
+fault-back wrong-label = refl
+fault-back no-such-part = refl
+fault-back guessed-twice = refl
+fault-back without-guess = refl
+
+numbers-apart : (f g : Fault) → numberOf f ≡ numberOf g → f ≡ g
+numbers-apart f g e = sym (fault-back f) ∙ ap (λ (n : ℕ). getD order (n - 30) malformed) e ∙ fault-back g
+
+-- a pass is no refusal
+not-passed : {p c a r n i : ℕ} → checked.Passed p c a r ≡ checked.Refused n i → ⊥
+not-passed e = let z : _≡_ {A = ℕ} 0 1 = cc in omega arith
+
+module _ (es : List Entry) where
+  refused-of : (o : Answer Fault) (f : Fault) (i : ℕ) → answer es o ≡ checked.Refused (numberOf f) i → o ≡ refused f i
+  refused-of passed f i e = absurd (not-passed e)
+  refused-of (refused g j) f i e =
+      let n : numberOf g ≡ numberOf f = cc in
+      let p : j ≡ i = cc in
+      let q : g ≡ f = numbers-apart g f n in
+      cc
+
+  passed-of : (o : Answer Fault) → answer es o ≡ answer es passed → o ≡ passed
+  passed-of passed e = refl
+  passed-of (refused g j) e = absurd (not-passed (sym e))
+
+  -- the number of f is told at i exactly if f holds at i, no fault earlier in the order holds anywhere, and f at no lower place
+  pub refused-iff : (f : Fault) (i : ℕ) → (checkedOf es ≡ checked.Refused (numberOf f) i) ↔ Told (Holds es) (places es) order f i
+  unfolding checkedOf
+  refused-iff f i =
+      let t = check-refuses es f i in
+      (λ e. t .0 (refused-of (checkOf es) f i e), λ w. ap (answer es) (t .1 w))
+
+  -- a drawing passes, with its counts, exactly if no fault holds anywhere
+  pub passed-iff : (checkedOf es ≡ checked.Passed (countOf es 1 1) (countOf es 2 2) (countOf es 3 3) (countOf es 4 23)) ↔ ((f : Fault) → Nowhere (Holds es f) (places es))
+  unfolding checkedOf
+  passed-iff =
+      let t = check-passes es in
+      (λ e. t .0 (passed-of (checkOf es) e), λ w. ap (answer es) (t .1 w))

@@ -1,0 +1,43 @@
+-- `drawing::faults::lowest_bad` meets its contract: the fault holds at no record passed. The measure is what is left of the records. Assumes nothing.
+use borrow.Author.Needs.{needs}
+use borrow.Author.Count.{below-none, below-more}
+use mathlib.Core.Path.{_≡_, refl, sym, _∙_}
+use mathlib.Core.Bool.{false}
+use Prim.Native.Nat.{_-_, _≤_}
+use native.Mathlib.Omega.{arith}
+use Rattle.refusal.specs.First.{EachBelow}
+use Rattle.record.specs.Decode.{countOf}
+use Rattle.drawing.specs.Check.{test}
+use Rattle.drawing.specs.Drawn.{drawn, faultAt}
+use Rattle.drawing.proofs.Order.{lowest-here, lowest-nowhere}
+use Rattle.drawing.proofs.faults.lowest_bad.Statement.{statement}
+use Rattle.drawing.proofs.faults.lowest_bad.Tie as tie
+
+abbrev Inv-loop : tie.InvT-loop
+Inv-loop text records f n i₀ i = (n ≡ countOf records) × (i ≤ n) × EachBelow i (λ j. test (drawn text records) (faultAt f) j ≡ false)
+
+abbrev μ-loop : tie.MeasureT-loop
+μ-loop text records f n i₀ i = n - i
+
+loop-holds : tie.Need-loop-holds Inv-loop μ-loop
+loop-holds c = (refl, omega arith, below-none _)
+
+returns : tie.Need-returns Inv-loop μ-loop
+returns c =
+    let a = c .before .before .before .before .before .before .args in
+    let l = c .before .before .before .loop in
+    lowest-here (countOf (a .records .now)) (test (drawn (a .text .now) (a .records .now)) (faultAt (a .f))) (l .i) (omega arith) (sym (c .before .bad .ensures) ∙ c .if1 .taken) (l .inv .2)
+
+loop-again : tie.Need-loop-again Inv-loop μ-loop
+loop-again c =
+    let l = c .before .before .before .loop in
+    (l .inv .0, omega arith, below-more _ (l .i) (l .inv .2) (sym (c .before .bad .ensures) ∙ c .if1 .left))
+
+returns-2 : tie.Need-returns-2 Inv-loop μ-loop
+returns-2 c =
+    let a = c .before .before .before .before .args in
+    let l = c .before .loop in
+    lowest-nowhere (countOf (a .records .now)) (test (drawn (a .text .now) (a .records .now)) (faultAt (a .f))) (λ j h. l .inv .2 j (omega arith))
+
+pub lowest-bad-spec : {M : Type 1} → statement M
+lowest-bad-spec = tie.close (tie.spec Inv-loop μ-loop loop-holds (λ c κs. search needs) returns (λ c. omega arith) (λ c. omega arith) loop-again returns-2)

@@ -1,0 +1,25 @@
+-- `drawing::faults::wrong_label` meets its contract: only a rule is looked at, at each of its kind's labels. Assumes nothing.
+use borrow.Author.Needs.{needs}
+use mathlib.Core.Path.{ap, _∙_}
+use Rattle.refusal.specs.First.{anyBelow}
+use Rattle.record.specs.declared.kinds.Kind.{Kind}
+use Rattle.drawing.specs.Check.{wrongPlace}
+use Rattle.drawing.specs.Drawn.{drawn}
+use Rattle.drawing.proofs.Read.{wrong-label-yes, wrong-label-no}
+use Rattle.drawing.proofs.faults.wrong_label.Statement.{statement}
+use Rattle.drawing.proofs.faults.wrong_label.Tie as tie
+
+returns : tie.Need-returns
+returns c =
+    let a = c .before .before .before .before .before .before .before .args in
+    c .any-wrong .ensures
+    ∙ ap (λ (k : Kind). anyBelow (k .labels) (wrongPlace (drawn (a .text .now) (a .records .now)) (a .i))) (c .before .before .kind-of .ensures)
+    ∙ wrong-label-yes (a .text .now) (a .records .now) (a .i) _ (c .before .before .before .before .kind-at .ensures) (c .before .before .before .if1 .taken)
+
+returns-2 : tie.Need-returns-2
+returns-2 c =
+    let a = c .before .before .before .before .args in
+    wrong-label-no (a .text .now) (a .records .now) (a .i) _ (c .before .kind-at .ensures) (c .if1 .left)
+
+pub wrong-label-spec : {M : Type 1} → statement M
+wrong-label-spec = tie.close (tie.spec (λ c κs. search needs) (λ c κs. search needs) (λ c. search needs) (λ c κs. search needs) returns returns-2)

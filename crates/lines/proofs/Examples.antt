@@ -1,0 +1,69 @@
+-- Document 01's example of a listing, line by line, and a line of each other form, by computation. Assumes nothing.
+use mathlib.Core.Path.{_≡_, refl}
+use mathlib.Core.List.{List, [], _∷_, _++_}
+use Prim.Native.Nat.{ℕ}
+use Prim.Native.String.{String}
+use Rattle.ground.specs.Words.{bytes}
+use Rattle.print.specs.Print.{lastDigits, hexOf, widthUpTo, decimalOf}
+use Rattle.record.specs.Entry.{Entry}
+use Rattle.reader.specs.declared.Reading.the-variants.{Good, Refused}
+use Rattle.lines.specs.Lines.{newline, spaced, firstLine, lineOf}
+
+-- quoted labels
+abbrev pub texts : List String → List (List ℕ)
+texts [] = []
+texts (w ∷ ws) = bytes w ∷ texts ws
+
+-- an entry by its kind, third byte, labels and numbers
+abbrev pub entry : ℕ → ℕ → List String → ℕ → ℕ → Entry
+entry kind third labels x y = record { kind = kind; third = third; labels = texts labels; x = x; y = y }
+
+-- lines one after the other
+abbrev pub lines : List (List ℕ) → List ℕ
+lines [] = []
+lines (l ∷ ls) = l ++ lines ls
+
+-- quoted lines
+abbrev pub quoted : List String → List ℕ
+quoted [] = []
+quoted (w ∷ ws) = bytes w ++ newline ++ quoted ws
+
+pub listing :
+    lines (
+    firstLine (Good 4 3 125)
+    ∷ lineOf (entry 1 0 ("p" ∷ []) 0 0)
+    ∷ lineOf (entry 4 1 ("p" ∷ []) 0 0)
+    ∷ lineOf (entry 2 0 ("c" ∷ []) 0 0)
+    ∷ lineOf (entry 15 0 ("c" ∷ []) 0x4000000000000000 0)
+    ∷ lineOf (entry 24 0 ("p" ∷ []) 0x3ff0000000000000 0x4000000000000000)
+    ∷ lineOf (entry 24 0 ("c.center" ∷ []) 0 0x3fe0000000000000)
+    ∷ lineOf (entry 25 0 ("c.radius" ∷ []) 0x3ff0000000000000 0)
+    ∷ [])
+    ≡ quoted (
+    "instructions 4 guesses 3 end 125"
+    ∷ "1 p"
+    ∷ "4 p x 0000000000000000"
+    ∷ "2 c"
+    ∷ "15 c 4000000000000000"
+    ∷ "24 p 3ff0000000000000 4000000000000000"
+    ∷ "24 c.center 0000000000000000 3fe0000000000000"
+    ∷ "25 c.radius 3ff0000000000000"
+    ∷ [])
+unfolding firstLine lineOf spaced decimalOf hexOf lastDigits widthUpTo
+listing = refl
+
+pub others :
+    lines (
+    firstLine (Refused 10 125)
+    ∷ lineOf (entry 10 2 ("a" ∷ "b" ∷ "c" ∷ "d" ∷ []) 0x3ff0000000000000 0)
+    ∷ lineOf (entry 18 2 ("c" ∷ []) 0 0)
+    ∷ lineOf (entry 8 0 ("a" ∷ "b" ∷ "c" ∷ "d" ∷ []) 0 0)
+    ∷ [])
+    ≡ quoted (
+    "refused 10 125"
+    ∷ "10 a b c d rad 3ff0000000000000"
+    ∷ "18 c y 0000000000000000"
+    ∷ "8 a b c d"
+    ∷ [])
+unfolding firstLine lineOf spaced decimalOf hexOf lastDigits widthUpTo
+others = refl
