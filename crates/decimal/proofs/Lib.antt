@@ -3,3 +3,4 @@ pub mod Powers
 pub mod Laws
 pub mod Only
 pub mod Cases
+pub mod Small

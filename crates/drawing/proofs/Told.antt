@@ -8,7 +8,6 @@ use lib.ListN.{getD}
 use Rattle.refusal.specs.First.{Answer, passed, refused, Nowhere, Told}
 use Rattle.record.specs.Entry.{Entry}
 use Rattle.record.specs.Formed.{places}
-use Rattle.drawing.specs.declared.Checked.{Checked}
 use Rattle.drawing.specs.declared.Checked.the-variants as checked
 use Rattle.drawing.specs.Faults as faults
 use faults.{Fault, malformed, declared-twice, wrong-label, no-such-part, guessed-twice, without-guess, order, numberOf, Holds}

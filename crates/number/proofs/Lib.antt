@@ -7,3 +7,4 @@ pub mod Only
 pub mod Cases
 pub mod Significant
 pub mod Within
+pub mod Small

@@ -44,29 +44,29 @@ module _ {s : List ℕ} {p : ℕ} where
 
   -- ---- pieces
 
-  ws-in : {t : Stand} → In s p t → In s p (wsOn s t)
+  pub ws-in : {t : Stand} → In s p t → In s p (wsOn s t)
   ws-in {t} h = record { is = ws-within s p t (h .is) }
 
-  word-in : {t : Stand} (w : List ℕ) → In s p t → In s p (wordOn s t w)
+  pub word-in : {t : Stand} (w : List ℕ) → In s p t → In s p (wordOn s t w)
   word-in {t} w h = record { is = word-within s p w t (h .is) }
 
-  byte-in : {t : Stand} (b : ℕ) → In s p t → In s p (byteOn s t b)
+  pub byte-in : {t : Stand} (b : ℕ) → In s p t → In s p (byteOn s t b)
   byte-in {t} b h = record { is = byte-within s p b t (h .is) }
 
-  label-in : {t : Stand} → In s p t → In s p (labelOn s t .then)
+  pub label-in : {t : Stand} → In s p t → In s p (labelOn s t .then)
   label-in {t} h = record { is = label-within s p t (h .is) }
 
-  number-in : {t : Stand} → In s p t → In s p (numberOn s t .then)
+  pub number-in : {t : Stand} → In s p t → In s p (numberOn s t .then)
   number-in {t} h = record { is = number-within s p t (h .is) }
 
   expr-in : {t : Stand} → In s p t → In s p (exprOn s t .then)
   expr-in {t} h = record { is = expr-within s p t (h .is) }
 
-  around-in : {t : Stand} (b : ℕ) → In s p t → In s p (aroundOn s t b)
+  pub around-in : {t : Stand} (b : ℕ) → In s p t → In s p (aroundOn s t b)
   unfolding aroundOn
   around-in b h = ws-in (byte-in b (ws-in h))
 
-  side-in : {t : Stand} (a b : List ℕ) → In s p t → In s p (eitherOn s t a b .then)
+  pub side-in : {t : Stand} (a b : List ℕ) → In s p t → In s p (eitherOn s t a b .then)
   unfolding eitherOn
   side-in {t} a b h = go (wordOn s t a) (word-in a h) (word-in b h)
     where
@@ -79,7 +79,7 @@ module _ {s : List ℕ} {p : ℕ} where
   unfolding pairOn
   pair-in h = byte-in 41 (number-in (ws-in (byte-in 44 (number-in (ws-in (byte-in 40 h))))))
 
-  suffixed-in : (l : Label) → In s p (l .then) → In s p (suffixedOn s l .then)
+  pub suffixed-in : (l : Label) → In s p (l .then) → In s p (suffixedOn s l .then)
   unfolding suffixedOn
   suffixed-in l h = go (labelOn s (byteOn s (l .then) 46) .then) (label-in (byte-in 46 h))
     where
@@ -102,7 +102,7 @@ module _ {s : List ℕ} {p : ℕ} where
   unfolding assignOn
   assign-in l h = line-in _ _ _ (pair-in (around-in 61 (suffixed-in l h)))
 
-  more-in : {t : Stand} (on : Bool) → In s p t → In s p (moreOn s t on .then)
+  pub more-in : {t : Stand} (on : Bool) → In s p t → In s p (moreOn s t on .then)
   unfolding moreOn
   more-in true h = label-in (around-in 44 h)
   more-in false h = h

@@ -36,11 +36,11 @@ module _ (s : List ℕ) where
   new-line at true e = record { is = (omega arith, omega (arith, starts-length (10 ∷ []) (drop at s) e, length-drop at s)) }
   new-line at false e = record { is = tt }
 
-  newline-in : (at : ℕ) → In s (at + 1) (newlineOn s (At at))
+  pub newline-in : (at : ℕ) → In s (at + 1) (newlineOn s (At at))
   unfolding byteOn wordAt
   newline-in at = new-line at (starts (10 ∷ []) (drop at s)) refl
 
-  line-in : (g : Bool) (p : ℕ) (t : Stand) → In s p t → In s p (lineOn g s t .then)
+  pub line-in : (g : Bool) (p : ℕ) (t : Stand) → In s p t → In s p (lineOn g s t .then)
   line-in false p t h = instruction-in h
   line-in true p t h = guess-in h
 

@@ -9,3 +9,4 @@ pub mod Only
 pub mod Ahead
 pub mod Enough
 pub mod Never
+pub mod Written

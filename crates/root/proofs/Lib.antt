@@ -7,3 +7,4 @@ pub mod Agree
 pub mod Only
 pub mod Value
 pub mod Cases
+pub mod Small
