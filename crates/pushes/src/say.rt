@@ -20,12 +20,12 @@ use layout::Stepped;
 use libc::STDOUT_FILENO;
 
 // Prints bytes.
-pub fn put(bytes: &[u8]) {
+pub(crate) fn put(bytes: &[u8]) {
     io::write_all(STDOUT_FILENO, bytes);
 }
 
 // Prints a number, after a blank.
-pub fn put_decimal(n: u64) {
+pub(crate) fn put_decimal(n: u64) {
     put(b" ");
     let digits = print::decimal(n);
     let bytes = digits.bytes;
@@ -34,14 +34,14 @@ pub fn put_decimal(n: u64) {
 }
 
 // Prints the bits of a value, after a blank.
-pub fn put_value(x: f64) {
+pub(crate) fn put_value(x: f64) {
     put(b" ");
     let digits = print::hex(bits::to_bits(x));
     put(&digits);
 }
 
 // Prints all ids.
-pub fn put_ids(ids: &[u32]) {
+pub(crate) fn put_ids(ids: &[u32]) {
     put(b"ids");
     let mut i = 0;
     while i < ids.len() {
@@ -52,7 +52,7 @@ pub fn put_ids(ids: &[u32]) {
 }
 
 // Prints all values.
-pub fn put_values(values: &[f64]) {
+pub(crate) fn put_values(values: &[f64]) {
     put(b"values");
     let mut i = 0;
     while i < values.len() {
@@ -63,7 +63,7 @@ pub fn put_values(values: &[f64]) {
 }
 
 // Prints the name of a kind.
-pub fn put_kind(k: Kind) {
+pub(crate) fn put_kind(k: Kind) {
     match k {
         Kind::Point => put(b"point"),
         Kind::Circle => put(b"circle"),
@@ -98,7 +98,7 @@ fn put_refusal(r: Refusal) {
 }
 
 // Prints what a push answers.
-pub fn put_pushed(p: Pushed) {
+pub(crate) fn put_pushed(p: Pushed) {
     match p {
         Pushed::Good(l, next) => {
             put_layout(l);
@@ -110,7 +110,7 @@ pub fn put_pushed(p: Pushed) {
 }
 
 // Prints what `done` answers.
-pub fn put_stepped(s: Stepped) {
+pub(crate) fn put_stepped(s: Stepped) {
     match s {
         Stepped::Good(l) => put_layout(l),
         Stepped::Refused(r) => put_refusal(r),
@@ -142,7 +142,7 @@ fn put_arc_vars(v: ArcVars) {
 }
 
 // Prints what the lookup of a point answers.
-pub fn put_point_ids(p: PointIds) {
+pub(crate) fn put_point_ids(p: PointIds) {
     match p {
         PointIds::Found(v) => put_point_vars(v),
         PointIds::Refused(r) => put_refusal(r),
@@ -151,7 +151,7 @@ pub fn put_point_ids(p: PointIds) {
 }
 
 // Prints what the lookup of a circle answers.
-pub fn put_circle_ids(c: CircleIds) {
+pub(crate) fn put_circle_ids(c: CircleIds) {
     match c {
         CircleIds::Found(v) => put_circle_vars(v),
         CircleIds::Refused(r) => put_refusal(r),
@@ -160,7 +160,7 @@ pub fn put_circle_ids(c: CircleIds) {
 }
 
 // Prints what a lookup of an arc answers.
-pub fn put_arc_ids(a: ArcIds) {
+pub(crate) fn put_arc_ids(a: ArcIds) {
     match a {
         ArcIds::Found(v) => put_arc_vars(v),
         ArcIds::Refused(r) => put_refusal(r),
@@ -192,7 +192,7 @@ fn put_arc(a: Arc) {
 }
 
 // Prints what the readout of a point answers.
-pub fn put_point_read(p: PointRead) {
+pub(crate) fn put_point_read(p: PointRead) {
     match p {
         PointRead::Found(v) => put_point(v),
         PointRead::Refused(r) => put_refusal(r),
@@ -201,7 +201,7 @@ pub fn put_point_read(p: PointRead) {
 }
 
 // Prints what the readout of a circle answers.
-pub fn put_circle_read(c: CircleRead) {
+pub(crate) fn put_circle_read(c: CircleRead) {
     match c {
         CircleRead::Found(v) => put_circle(v),
         CircleRead::Refused(r) => put_refusal(r),
@@ -210,7 +210,7 @@ pub fn put_circle_read(c: CircleRead) {
 }
 
 // Prints what the readout of an arc answers.
-pub fn put_arc_read(a: ArcRead) {
+pub(crate) fn put_arc_read(a: ArcRead) {
     match a {
         ArcRead::Found(v) => put_arc(v),
         ArcRead::Refused(r) => put_refusal(r),
