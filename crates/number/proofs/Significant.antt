@@ -9,8 +9,9 @@ use native.Mathlib.Omega.{arith}
 use borrow.Author.Tests.{eqb-false}
 use lib.Dec.{eqb, leb, leb→le, eqb→eq}
 use lib.ListN.{length, drop}
-use lib.Ieee.Fits.{and-l, and-r}
+use lib.Ieee.Fits.{and-r}
 use Rattle.text.specs.Text.{run}
+use Rattle.number.proofs.Numerals.{digit-least}
 use Rattle.number.specs.Number.{isDigit, digitsAt, numeral, joined, partAt}
 
 -- digits without their leading zeros
@@ -38,15 +39,12 @@ both-digits (d ∷ ds) b h k = (h .0, both-digits ds b (h .1) k)
 
 -- ---- between which powers of ten a number lies
 
-least : (d : ℕ) → isDigit d ≡ true → 48 ≤ d
-least d e = leb→le 48 d (and-l (leb 48 d) (leb d 57) (rw e tt))
-
 most : (d : ℕ) → isDigit d ≡ true → d ≤ 57
 most d e = leb→le d 57 (and-r (leb 48 d) (leb d 57) (rw e tt))
 
 -- a digit that is not 0
 other : (d : ℕ) → isDigit d ≡ true → eqb d 48 ≡ false → 48 < d
-other d e f = omega (arith, least d e, eqb-false d 48 f)
+other d e f = omega (arith, digit-least d e, eqb-false d 48 f)
 
 shift : (m k : ℕ) → m * 10 ^ suc k ≡ m * 10 * 10 ^ k
 shift m k = rw (pow-succ' 10 k, mul-assoc)

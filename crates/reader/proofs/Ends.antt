@@ -12,10 +12,11 @@ use Rattle.text.specs.declared.Stand.the-variants.{At, Nothing, Refused}
 use Rattle.store.specs.Store.{room, written}
 use Rattle.store.proofs.Laws.{written-first}
 use Rattle.record.specs.Record.{recordBytes, encodeAll}
+use Rattle.record.proofs.Back.{count-all}
 use Rattle.reader.specs.declared.Reading.{Reading}
 use Rattle.reader.specs.declared.Reading.the-variants as reading
 use Rattle.reader.specs.Page.{longestText, mostRecords, highAt, toldOf, endedOf, problemOf, readingOf, recordsIn, writtenBy, bufferAfter, Reads, stored, Paged, Ended}
-use Rattle.reader.proofs.Storing.{encodeAll-length, stored-all}
+use Rattle.reader.proofs.Storing.{stored-all}
 use Rattle.reader.proofs.Turns.{lines-few}
 
 -- ---- how many records a page can have
@@ -85,7 +86,7 @@ module _ (whole : Bool) (s d zeros own : List ℕ) (i g : ℕ) (then : Stand) (p
 
       bytes-are : take (recordBytes * (a + b)) own ≡ encodeAll (recordsIn s)
       bytes-are =
-          let long : recordBytes * (a + b) ≡ length (encodeAll (recordsIn s)) = omega (arith, encodeAll-length (recordsIn s), count) in
+          let long : recordBytes * (a + b) ≡ length (encodeAll (recordsIn s)) = omega (arith, count-all (recordsIn s), count) in
           let all : stored zeros 0 (recordsIn s) ≡ written zeros 0 (encodeAll (recordsIn s))
           = stored-all zeros 0 (recordsIn s) (omega (arith, count, says .few, says .instructions-are, says .guesses-are)) in
           rw (p .buffer, all, long) (written-first zeros (encodeAll (recordsIn s)))
@@ -100,7 +101,7 @@ module _ (whole : Bool) (s d zeros own : List ℕ) (i g : ℕ) (then : Stand) (p
       pub copied : (d′ : List ℕ) → d′ ≡ cond (room d 0 (take (recordBytes * (a + b)) own)) (written d 0 (take (recordBytes * (a + b)) own)) d → Ended whole s d (reading.Good a b e) d′
       unfolding written
       copied d′ c =
-          let long : length (encodeAll (recordsIn s)) ≡ recordBytes * length (recordsIn s) = encodeAll-length (recordsIn s) in
+          let long : length (encodeAll (recordsIn s)) ≡ recordBytes * length (recordsIn s) = omega (arith, count-all (recordsIn s)) in
           let fits : 0 + length (encodeAll (recordsIn s)) ≤ length d = omega (arith, count, says .room-for, says .instructions-are, says .guesses-are) in
           let plain : 0 + length (encodeAll (recordsIn s)) ≡ recordBytes * length (recordsIn s) = omega arith in
           record { told = sym good ∙ told-is; buffer = c ∙ rw (bytes-are, le-leb (0 + length (encodeAll (recordsIn s))) (length d) fits, plain) }

@@ -5,13 +5,14 @@ use mathlib.Core.List.{List, [], _∷_, _++_}
 use Prim.Native.Nat.{ℕ, suc, _+_, _*_, _≤_}
 use native.Mathlib.Nat.{add-zero}
 use native.Mathlib.Omega.{arith}
-use lib.Dec.{leb, leb→le}
+use lib.Dec.{leb→le}
 use borrow.Author.Tests.{le-leb}
-use lib.ListN.{length, length-append}
+use lib.ListN.{length}
 use Rattle.store.specs.Store.{room, written}
 use Rattle.store.proofs.Laws.{written-length, written-append, written-none}
-use Rattle.record.specs.Record.{recordBytes, firstGuess, guess, instruction, encode, encodeAll}
+use Rattle.record.specs.Record.{recordBytes, encode, encodeAll}
 use Rattle.record.specs.declared.Record.{Record}
+use Rattle.record.proofs.Back.{length-encode, count-all}
 use Rattle.reader.specs.declared.forms.Line.{Line}
 use Rattle.reader.specs.Page.{component, recordsOf, store, stored, Stored}
 
@@ -52,25 +53,12 @@ module _ (l : Line) (d d′ : List ℕ) (n : ℕ) where
 
 -- ---- all records, where there is room for all
 
-encode-length : (r : Record) → length (encode r) ≡ recordBytes
-unfolding encode
-encode-length r = go (leb firstGuess (r .kind))
-  where
-    go : (t : Bool) → length (cond t (guess r) (instruction r)) ≡ recordBytes
-    go true = refl
-    go false = refl
-
-pub encodeAll-length : (rs : List Record) → length (encodeAll rs) ≡ recordBytes * length rs
-unfolding encodeAll
-encodeAll-length [] = refl
-encodeAll-length (r ∷ rs) = omega (arith, length-append (encode r) (encodeAll rs), encode-length r, encodeAll-length rs)
-
 pub stored-all : (d : List ℕ) (n : ℕ) (rs : List Record) → (n + length rs) * recordBytes ≤ length d → stored d n rs ≡ written d (n * recordBytes) (encodeAll rs)
 unfolding stored encodeAll
 stored-all d n [] h = sym (written-none d (n * recordBytes) (omega arith))
 stored-all d n (r ∷ rs) h =
-    let size = encode-length r in
+    let size = length-encode r in
     let here : store d n r ≡ written d (n * recordBytes) (encode r) = rw (le-leb (n * recordBytes + length (encode r)) (length d) (omega arith)) in
     let place : (n + 1) * recordBytes ≡ n * recordBytes + length (encode r) = omega arith in
     stored-all (store d n r) (n + 1) rs (omega (arith, store-length d n r))
-    ∙ rw (here, place) (written-append d (n * recordBytes) (encode r) (encodeAll rs) (omega (arith, encodeAll-length rs)))
+    ∙ rw (here, place) (written-append d (n * recordBytes) (encode r) (encodeAll rs) (omega (arith, count-all rs)))
