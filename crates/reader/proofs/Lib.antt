@@ -9,4 +9,9 @@ pub mod Only
 pub mod Ahead
 pub mod Enough
 pub mod Never
+pub mod Reached
+pub mod Labels
+pub mod SoundLines
+pub mod SoundPage
 pub mod Written
+pub mod WellRead

@@ -1,0 +1,156 @@
+-- The records that a good reading writes are well formed, so that 30 is told of none of them; their entries are the records that were
+-- read, with their labels as text. Assumes nothing.
+use mathlib.Core.Path.{_≡_, refl, sym, ap, _∙_}
+use mathlib.Core.Bool.{Bool, true, false, cond}
+use mathlib.Core.List.{List, _++_, map}
+use Prim.Native.Nat.{ℕ, _+_, _*_, _≤_, _<_}
+use native.Mathlib.Omega.{arith}
+use lib.Dec.{ltb}
+use lib.ListN.{length, getD, take, drop, length-append, length-map, List·getD-map}
+use lib.Seq.{take-at, ext-getD}
+use borrow.Author.Tests.{ltb-false, leb-true, leb-false, lt-ltb}
+use Rattle.refusal.specs.First.{Nowhere}
+use Rattle.text.specs.declared.Stand.{Stand}
+use Rattle.text.specs.declared.Stand.the-variants.{At, Nothing, Refused}
+use Rattle.record.specs.Record.{recordBytes, firstGuess, encodeAll}
+use Rattle.record.specs.Decode.{decode, countOf, recordOf, decodeAt, noRecord}
+use Rattle.record.specs.Entry.{noEntry, entryOf}
+use Rattle.record.specs.Sound.{Good}
+use Rattle.record.specs.Formed.{Parted, WellFormed, entries, Malformed, places, formedOf}
+use Rattle.record.specs.declared.formed.Formed.the-variants as formed
+use Rattle.record.proofs.Back.{record-of-all, count-all}
+use Rattle.record.proofs.Entries.{whole-length}
+use Rattle.record.proofs.Told.{passed-iff}
+use Rattle.record.proofs.WellFormed.{well-formed-iff}
+use Rattle.record.proofs.Written.{good-written, entry-decoded}
+use Rattle.reader.specs.declared.Reading.the-variants as reading
+use Rattle.reader.specs.Page.{longestText, mostRecords, problemOf, highAt, endedOf, readingOf, recordsIn, bufferAfter, Reads}
+use Rattle.reader.proofs.Ends.{good-says}
+use Rattle.reader.proofs.Written.{written-fits, read-back}
+use Rattle.reader.proofs.Reached.{Reached, here}
+use Rattle.reader.proofs.SoundPage.{some-of-each, instruction-at, guess-at, record-at}
+
+-- ---- the bytes of the records of a page
+
+module _ (s : List ℕ) (short : length s ≤ longestText) where
+  each-good : (i : ℕ) → i < length (recordsIn s) → Good s (recordOf (encodeAll (recordsIn s)) i)
+  each-good i h =
+      let p = record-at s i h .1 in
+      rw (record-of-all (recordsIn s) i h)
+      (good-written s (getD (recordsIn s) i noRecord) (written-fits s short noRecord i h) short (p .few) (p .placed) (p .sound))
+
+  count-is : countOf (encodeAll (recordsIn s)) ≡ length (recordsIn s)
+  count-is = omega (arith, count-all (recordsIn s))
+
+  -- a record's bytes give the record
+  back : (i : ℕ) → i < length (recordsIn s) → decode (recordOf (encodeAll (recordsIn s)) i) ≡ getD (recordsIn s) i noRecord
+  unfolding decodeAt
+  back i h = rw (lt-ltb i (countOf (encodeAll (recordsIn s))) (omega (arith, h, count-is))) at (read-back s short i h)
+
+  module _ (few : length (recordsIn s) ≤ mostRecords) (ended : Reached (problemOf s .then)) where
+    parted : Parted (encodeAll (recordsIn s))
+    parted =
+        let n = length-append (problemOf s .instructions) (problemOf s .guesses) in
+        let w = some-of-each s ended in
+        record {
+          guesses = length (problemOf s .instructions);
+          some-instruction = w .0;
+          some-guess = omega (arith, count-is, n, w .1);
+          before = λ i h k.
+              let b : i < length (recordsIn s) = omega (arith, h, n) in
+              omega (arith, rw (back i b) at k, leb-false firstGuess (getD (recordsIn s) i noRecord .kind) (instruction-at s i h .sort));
+          behind = λ i h k.
+              let b : i < length (recordsIn s) = omega (arith, k, count-is) in
+              rw (back i b) (leb-true firstGuess (getD (recordsIn s) i noRecord .kind) (guess-at s i h b .sort));
+        }
+
+    pub page-well-formed : WellFormed s (encodeAll (recordsIn s))
+    page-well-formed =
+        record {
+          short = short;
+          few = omega (arith, few, count-is);
+          whole = omega (arith, count-all (recordsIn s));
+          each = λ i h. each-good i (omega (arith, h, count-is));
+          parted = parted;
+        }
+
+-- ---- what a good answer says of the page
+
+pub record GoodPage (s : List ℕ) (i g end : ℕ) : Type 0 where
+  pub short : length s ≤ longestText
+  pub ended : problemOf s .then ≡ At end
+  pub instructions-are : i ≡ length (problemOf s .instructions)
+  pub guesses-are : g ≡ length (problemOf s .guesses)
+  pub few : length (recordsIn s) ≤ mostRecords
+
+module _ (whole : Bool) (s : List ℕ) (size i g end : ℕ) where
+  -- an answer that is good was not refused
+  good-ended : (t : Stand) → length s ≤ longestText → problemOf s .then ≡ t → endedOf whole s (problemOf s) size t ≡ reading.Good i g end → GoodPage s i g end
+  good-ended (At e) short at h =
+      let w = good-says whole (length s) (length (problemOf s .instructions)) (length (problemOf s .guesses)) size e i g end h in
+      record {
+        short = short;
+        ended = at ∙ ap At (sym (w .end-is));
+        instructions-are = w .instructions-are;
+        guesses-are = w .guesses-are;
+        few = omega (arith, w .few, length-append (problemOf s .instructions) (problemOf s .guesses));
+      }
+  good-ended Nothing short at h = let c : _≡_ {A = ℕ} 0 1 = cc in absurd (omega arith)
+  good-ended (Refused number place) short at h = let c : _≡_ {A = ℕ} 0 1 = cc in absurd (omega arith)
+
+  good-read : readingOf whole s size ≡ reading.Good i g end → GoodPage s i g end
+  unfolding readingOf
+  good-read h = go (ltb longestText (length s)) (ltb (highAt s) (length s)) refl h
+    where
+      go : (a b : Bool) → ltb longestText (length s) ≡ a
+          → cond a (reading.Refused 1 0) (cond b (reading.Refused 2 (highAt s)) (endedOf whole s (problemOf s) size (problemOf s .then))) ≡ reading.Good i g end → GoodPage s i g end
+      go true b e k = let c : _≡_ {A = ℕ} 0 1 = cc in absurd (omega arith)
+      go false true e k = let c : _≡_ {A = ℕ} 0 1 = cc in absurd (omega arith)
+      go false false e k = good-ended (problemOf s .then) (ltb-false longestText (length s) e) refl k
+
+-- ---- what a good reading writes
+
+-- the bytes of so many instructions and guesses in a buffer
+abbrev pub writtenIn : ℕ → ℕ → List ℕ → List ℕ
+writtenIn i g d = take (recordBytes * (i + g)) d
+
+module _ (whole : Bool) (s d : List ℕ) (i g end : ℕ) (d′ : List ℕ) (r : Reads whole s d (reading.Good i g end) d′) where
+  pub page-read : GoodPage s i g end
+  page-read = good-read whole s (length d) i g end (sym (r .told))
+
+  -- they are the bytes of the records of the page
+  pub bytes-read : writtenIn i g d′ ≡ encodeAll (recordsIn s)
+  unfolding bufferAfter
+  bytes-read =
+      let p = page-read in
+      let n : length (encodeAll (recordsIn s)) ≡ recordBytes * (i + g)
+      = omega (arith, count-all (recordsIn s), length-append (problemOf s .instructions) (problemOf s .guesses), p .instructions-are, p .guesses-are) in
+      ap (take (recordBytes * (i + g))) buffer-is ∙ take-at (encodeAll (recordsIn s)) (drop (recordBytes * length (recordsIn s)) d) (recordBytes * (i + g)) n
+    where
+      buffer-is : d′ ≡ encodeAll (recordsIn s) ++ drop (recordBytes * length (recordsIn s)) d
+      buffer-is = r .buffer ∙ rw (← r .told) refl
+
+  -- they are well formed
+  pub well-formed-read : WellFormed s (writtenIn i g d′)
+  well-formed-read = let p = page-read in rw bytes-read (page-well-formed s (p .short) (p .few) (rw (p .ended) (here end)))
+
+  -- so they pass, and 30 is told of none of them
+  pub passed-read : formedOf (entries s (writtenIn i g d′)) ≡ formed.WellFormed
+  passed-read = well-formed-iff s (writtenIn i g d′) .1 well-formed-read
+
+  pub never-30 : Nowhere (Malformed (entries s (writtenIn i g d′))) (places (entries s (writtenIn i g d′)))
+  never-30 = passed-iff (entries s (writtenIn i g d′)) .0 passed-read
+
+  -- their entries are the records of the page, in text order, with the labels as their text
+  pub entries-read : entries s (writtenIn i g d′) ≡ map (entryOf s) (recordsIn s)
+  unfolding entryOf
+  entries-read =
+      let p = page-read in
+      let w = page-well-formed s (p .short) (p .few) (rw (p .ended) (here end)) in
+      let rs = recordsIn s in
+      let n : length (entries s (encodeAll rs)) ≡ length rs = whole-length s (encodeAll rs) (w .short) (w .few) (w .whole) ∙ count-is s (p .short) in
+      rw bytes-read
+      (ext-getD noEntry (entries s (encodeAll rs)) (map (entryOf s) rs) (n ∙ sym (length-map rs (entryOf s)))
+      (λ k h.
+      let b : k < length rs = omega (arith, h, n) in
+      entry-decoded s (encodeAll rs) w k (omega (arith, b, count-is s (p .short))) ∙ ap (entryOf s) (read-back s (p .short) k b) ∙ sym (List·getD-map (entryOf s) rs k noRecord)))
