@@ -9,10 +9,11 @@ use Rattle.text.specs.Text.{runTo, wordAt, byteOn, labelAt, labelOn, suffixedOn
 use Rattle.record.specs.Entry.{Label, Entry}
 use Rattle.record.specs.Sound.{spelledTest, soundTest}
 use Rattle.record.specs.Formed.{malformedTest}
+use Rattle.index.specs.Labels.{labelled}
 use Rattle.drawing.specs.declared.Checked.{Checked}
 use Rattle.drawing.specs.declared.Checked.the-variants.{Passed, Refused}
 use Rattle.drawing.specs.Check as check
-use check.{labelled, twice, namedAt, named, guessAt, guessed, wrongPlace, wrongLabelTest, noSuchPartTest, withoutGuessTest, checkOf, countBelow, checkedOf}
+use check.{twice, namedAt, named, guessAt, guessed, wrongPlace, wrongLabelTest, noSuchPartTest, withoutGuessTest, checkOf, countBelow, checkedOf}
 
 -- ---- entries
 

@@ -1,67 +1,48 @@
--- Labels that are the same, parts of a text, searches, and tests put together. Assumes nothing.
+-- Labels with a suffix behind them, searches for any, tests put together, counts, and the codes of a kind. Assumes nothing.
 use mathlib.Core.Path.{_≡_, refl, sym, ap, _∙_}
-use mathlib.Core.Bool.{Bool, true, false, _&&_, _||_, true≢false}
-use mathlib.Core.List.{List, [], _∷_, _++_, nil≢cons, cons≢nil, tail-eq-of-cons-eq, head-eq-of-cons-eq}
-use Prim.Native.Nat.{ℕ, _+_, _-_, _≤_, _<_}
+use mathlib.Core.Bool.{Bool, true, false, _||_, cond, true≢false}
+use mathlib.Core.List.{_++_}
+use Prim.Native.Nat.{ℕ, zero, suc, _+_, _-_, _≤_, _<_}
 use native.Mathlib.Numerals.{add-one}
 use native.Mathlib.Omega.{arith}
-use lib.ListN.{length, take, drop, getD, drop-of-length-le, length-drop, length-append, take-append-drop}
-use lib.Seq.{drop-cons, take-all, take-nil, take-at, drop-at}
-use borrow.Author.Tests.{eq-eqb, ne-eqb}
+use lib.ListN.{length, take, drop, length-append, take-append-drop}
+use lib.Seq.{take-at, drop-at}
+use lib.Dec.{leb, eqb}
+use borrow.Author.Tests.{leb-true}
+use Rattle.ground.proofs.Lists.{all-at}
 use Rattle.refusal.specs.First.{EachBelow, anyBelow}
-use Rattle.refusal.proofs.Says.{Says, refuted, says-once, says-so, says-and, says-iff, says-eq, says-any}
-use Rattle.record.specs.Entry.{Label, part}
-use Rattle.drawing.specs.Check.{same}
+use Rattle.refusal.proofs.Says.{refuted, says-once, says-so, says-and, says-iff, says-eq, says-le, says-any}
+use Rattle.record.specs.declared.kinds.Kind.{Kind}
+use Rattle.record.specs.Kinds.{kinds, kindAt, noKind}
+use Rattle.record.specs.Entry.{Label}
+use Rattle.index.specs.Labels.{same, within}
+use Rattle.index.proofs.Laws.{says-same}
+use Rattle.drawing.specs.Check.{countBelow}
 
--- ---- labels
+-- ---- a name with a suffix behind it
 
--- the test of two labels says that they are equal
-pub says-same : (s t : Label) → Says (same s t) (s ≡ t)
-says-same [] [] = record { so = λ e. refl; back = λ e. refl }
-says-same [] (b ∷ t) = record { so = λ e. absurd (true≢false (sym e)); back = λ e. absurd (nil≢cons e) }
-says-same (a ∷ s) [] = record { so = λ e. absurd (true≢false (sym e)); back = λ e. absurd (cons≢nil e) }
-says-same (a ∷ s) (b ∷ t) =
-    says-iff (λ p. cc) (λ e. (head-eq-of-cons-eq e, tail-eq-of-cons-eq e)) (says-and (says-eq a b) (says-same s t))
+pub suffix-cancel : (x y suffix : Label) → x ++ suffix ≡ y ++ suffix → x ≡ y
+suffix-cancel x y suffix e =
+    let n : length y ≡ length x = omega (arith, ap length e, length-append x suffix, length-append y suffix) in
+    sym (take-at x suffix (length x) refl) ∙ ap (take (length x)) e ∙ take-at y suffix (length x) n
 
-pub same-length : (a b : Label) → (length a ≡ length b → ⊥) → same a b ≡ false
-same-length a b f = refuted (says-same a b) (λ e. f (ap length e))
+module _ (l suffix : Label) where
+  -- a label that is no longer than a suffix has none
+  pub too-short : length l < length suffix → (x : Label) → x ++ suffix ≡ l → ⊥
+  too-short h x e = omega (arith, h, ap length e, length-append x suffix)
 
-module _ (a b : Label) (i : ℕ) where
-  pub same-more : i < length a → i < length b → getD a i 0 ≡ getD b i 0 → same (drop i a) (drop i b) ≡ same (drop (i + 1) a) (drop (i + 1) b)
-  same-more ha hb e = rw (add-one i, drop-cons a i 0 ha, drop-cons b i 0 hb, eq-eqb _ _ e) refl
+  -- nor has one that ends otherwise
+  pub ends-else : same (drop (length l - length suffix) l) suffix ≡ false → (x : Label) → x ++ suffix ≡ l → ⊥
+  ends-else f x e =
+      let n : length x ≡ length l - length suffix = omega (arith, ap length e, length-append x suffix) in
+      let d : drop (length l - length suffix) l ≡ suffix = ap (drop (length l - length suffix)) (sym e) ∙ drop-at x suffix (length l - length suffix) n in
+      true≢false (sym (says-same (drop (length l - length suffix) l) suffix .back d) ∙ f)
 
-  pub same-stop : i < length a → i < length b → (getD a i 0 ≡ getD b i 0 → ⊥) → same (drop i a) (drop i b) ≡ false
-  same-stop ha hb e = rw (drop-cons a i 0 ha, drop-cons b i 0 hb, ne-eqb _ _ e) refl
-
-  pub same-end : length a ≤ i → length b ≤ i → same (drop i a) (drop i b) ≡ true
-  same-end ha hb = rw (drop-of-length-le a ha, drop-of-length-le b hb) refl
-
--- a label against a name with a suffix behind it
-module _ (l name suffix : Label) where
-  pub same-short : length l < length name → same l (name ++ suffix) ≡ false
-  same-short h = refuted (says-same l (name ++ suffix)) (λ e. absurd (omega (arith, h, ap length e, length-append name suffix)))
-
-  pub same-two : same l (name ++ suffix) ≡ same (take (length name) l) name && same (drop (length name) l) suffix
-  same-two =
-      says-once
-      (says-same l (name ++ suffix))
-      (says-iff
-      (λ w. let e : take (length name) l ++ drop (length name) l ≡ name ++ suffix = rw (w .0, w .1) refl in sym (take-append-drop (length name) l) ∙ e)
-      (λ e. rw e (take-at name suffix (length name) refl, drop-at name suffix (length name) refl))
-      (says-and (says-same (take (length name) l) name) (says-same (drop (length name) l) suffix)))
-
--- ---- parts of the text
-
-module _ (s : List ℕ) (at n : ℕ) where
-  pub part-past : length s ≤ at → [] ≡ part s at n
-  part-past h = rw (drop-of-length-le s h, take-nil n) refl
-
-  pub part-short : length s - at ≤ n → take (length s - at) (drop at s) ≡ part s at n
-  part-short h = take-all (length s - at) (drop at s) (simp length-drop (omega arith)) ∙ sym (take-all n (drop at s) (simp length-drop (omega arith)))
-
--- what is left of a text is all of it from there on
-pub rest-of : (s : List ℕ) (n : ℕ) → take (length s - n) (drop n s) ≡ drop n s
-rest-of s n = take-all (length s - n) (drop n s) (simp length-drop (omega arith))
+  -- any other is what stands before it, with the suffix behind
+  pub ends-so : same (drop (length l - length suffix) l) suffix ≡ true → take (length l - length suffix) l ++ suffix ≡ l
+  ends-so e =
+      let d = says-same (drop (length l - length suffix) l) suffix .so e in
+      ap (λ (t : Label). take (length l - length suffix) l ++ t) (sym d) ∙ take-append-drop (length l - length suffix) l
 
 -- ---- a search for any
 
@@ -72,8 +53,40 @@ module _ (p : ℕ → Bool) (n : ℕ) where
   pub any-none : EachBelow n (λ j. p j ≡ false) → false ≡ anyBelow n p
   any-none f = sym (refuted (says-any p (λ j. p j ≡ true) (λ j. says-so) n) (λ w. true≢false (sym (w .2) ∙ f (w .0) (w .1))))
 
+-- two tests of the same answers
+pub any-same : (p q : ℕ → Bool) (n : ℕ) → ((j : ℕ) → p j ≡ q j) → anyBelow n p ≡ anyBelow n q
+any-same p q n e = ap (anyBelow n) (λ i j. e j i)
+
 -- ---- tests put together
 
 pub or-false : (b : Bool) → (b || false) ≡ b
 or-false true = refl
 or-false false = refl
+
+-- a kind from one to the same is that one
+pub within-one : (kind k : ℕ) → eqb k kind ≡ within kind kind k
+within-one kind k =
+    says-once (says-eq k kind) (says-iff (λ w. omega (arith, w .0, w .1)) (λ e. (omega (arith, e), omega (arith, e))) (says-and (says-le kind k) (says-le k kind)))
+
+-- ---- counts
+
+-- the count goes by the kinds alone
+pub count-kinds : (f g : ℕ → ℕ) (low high n : ℕ) → ((i : ℕ) → f i ≡ g i) → countBelow f low high n ≡ countBelow g low high n
+unfolding countBelow
+count-kinds f g low high zero e = refl
+count-kinds f g low high (suc n) e = rw (e n, count-kinds f g low high n e) refl
+
+-- one record more
+pub count-more : (f : ℕ → ℕ) (low high i m kind one : ℕ) → m ≡ countBelow f low high i → kind ≡ f i → one ≡ cond (within low high kind) 1 0 → m + one ≡ countBelow f low high (i + 1)
+unfolding countBelow
+count-more f low high i m kind one em ek eo = rw (add-one, ← ek, ← em, ← eo) refl
+
+pub one-small : (b : Bool) → cond b 1 0 ≤ 1
+one-small true = omega arith
+one-small false = omega arith
+
+-- ---- the codes of a kind
+
+-- no row of the table has more than four labels: one computed test
+pub four-labels : (k : ℕ) → kindAt k .labels ≤ 4
+four-labels k = leb-true (kindAt k .labels) 4 (all-at (λ (r : Kind). leb (r .labels) 4) kinds noKind refl refl k)

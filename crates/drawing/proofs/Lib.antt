@@ -1,6 +1,5 @@
 pub mod Laws
 pub mod Agree
-pub mod Drawn
 pub mod Read
 pub mod Order
 pub mod Told

@@ -1,58 +1,34 @@
 -- The check of a well formed list: 30 is told nowhere, and one turn of the loop goes on to the next fault of the order behind it. Assumes nothing.
 use mathlib.Core.Path.{_≡_, refl, sym, ap, _∙_, subst}
-use mathlib.Core.Bool.{Bool, true, false}
+use mathlib.Core.Bool.{Bool, false}
 use mathlib.Core.Option.{Option, none, some}
 use mathlib.Core.List.{List}
 use Prim.Native.Nat.{ℕ, zero, suc, _+_, _≤_, _<_}
-use native.Mathlib.Nat.{le-refl, lt-irrefl}
+use native.Mathlib.Nat.{le-refl}
 use native.Mathlib.Numerals.{add-one}
 use native.Mathlib.Omega.{arith}
 use lib.ListN.{length, drop, drop-of-length-le, List·getD-eq-default}
 use lib.Seq.{drop-cons}
-use Rattle.refusal.specs.First.{EachBelow, passed, refused, tell, first, lowest, orElse}
-use Rattle.refusal.proofs.Says.{says-so}
-use Rattle.refusal.proofs.Search.{Searched, at, searched, none-iff, stops-here, goes-through}
+use Rattle.refusal.specs.First.{passed, refused, tell, first, lowest, orElse}
+use Rattle.refusal.proofs.Search.{none-iff}
 use Rattle.record.specs.declared.formed.Formed.the-variants as formed
 use Rattle.record.specs.Decode.{countOf, decodeAt}
 use Rattle.record.specs.Entry.{Entry, noEntry}
-use Rattle.record.specs.Formed.{WellFormed, entries, Malformed, places, malformedTest, verdict, formedOf}
+use Rattle.record.specs.Formed.{most, WellFormed, entries, Malformed, places, malformedTest, verdict, formedOf}
 use Rattle.record.proofs.Told.{says-malformed, passed-iff}
 use Rattle.record.proofs.WellFormed.{well-formed-iff}
+use Rattle.index.specs.Labels.{drawn, kindNo, within, lowestOr}
+use Rattle.index.specs.Chains.{chains, Made, Chained}
+use Rattle.index.proofs.Drawn.{drawn-length, drawn-kind, entries-drawn}
+use Rattle.index.proofs.First.{is-some, is-none}
+use Rattle.index.proofs.Links.{room-so}
+use Rattle.index.proofs.Found.{made-chained}
 use Rattle.drawing.specs.declared.Checked.the-variants as checked
 use Rattle.drawing.specs.Faults as faults
-use faults.{kindNo, Fault, malformed, behind30, numberOf}
+use faults.{Fault, malformed, behind30, faultAt, numberOf}
 use Rattle.drawing.specs.Check as check
-use check.{within, twice, wrongLabelTest, noSuchPartTest, withoutGuessTest, test, checkOf, countBelow, countOf as count-of, answer, checkedOf}
-use Rattle.drawing.specs.Drawn.{drawn, placeOr, lowestOr, faultAt}
-use Rattle.drawing.proofs.Drawn.{drawn-length, drawn-kind, entries-drawn, count-kinds}
-
--- ---- the lowest place, from the number that stands for it
-
-module _ (n : ℕ) (p : ℕ → Bool) where
-  pub lowest-here : (i : ℕ) → i < n → p i ≡ true → EachBelow i (λ j. p j ≡ false) → i ≡ lowestOr n p
-  unfolding lowestOr
-  lowest-here i h e f = sym (ap (λ (o : Option ℕ). placeOr o n) (stops-here p n i h e f))
-
-  pub lowest-nowhere : EachBelow n (λ j. p j ≡ false) → n ≡ lowestOr n p
-  unfolding lowestOr
-  lowest-nowhere f = sym (ap (λ (o : Option ℕ). placeOr o n) (goes-through p n f))
-
-  module _ (i : ℕ) (e : i ≡ lowestOr n p) where
-    is-some : i < n → lowest n p ≡ some i
-    unfolding lowestOr
-    is-some h = go (lowest n p) e
-      where
-        go : (o : Option ℕ) → i ≡ placeOr o n → o ≡ some i
-        go (some j) q = ap some (sym q)
-        go none q = absurd (lt-irrefl n (subst (λ (k : ℕ). k < n) q h))
-
-    is-none : n ≤ i → lowest n p ≡ none
-    unfolding lowestOr
-    is-none h = go (lowest n p) e (searched p (λ j. p j ≡ true) (λ j. says-so) n)
-      where
-        go : (o : Option ℕ) → i ≡ placeOr o n → Searched (λ j. p j ≡ true) n o → o ≡ none
-        go (some j) q (at a) = absurd (lt-irrefl n (omega (arith, a .inside, q, h)))
-        go none q s = refl
+use check.{twice, wrongLabelTest, noSuchPartTest, withoutGuessTest, test, checkOf, countBelow, countOf as count-of, answer, checkedOf}
+use Rattle.drawing.proofs.Laws.{count-kinds}
 
 -- ---- a turn of the loop
 
@@ -158,6 +134,13 @@ module _ (text bs : List ℕ) (w : WellFormed text bs) where
       ap (λ (o : Option ℕ). tell malformed o (first behind30 (test es) (places es))) never
       ∙ shorter es
       ∙ ap (first behind30 (test es)) (drawn-length text bs)
+
+  -- the chains of a kind from low to high, made in tables of the lengths that the check has
+  pub chained : {low high : ℕ} {hs ns hs′ ns′ : List ℕ} {answer : Bool} → Made (drawn text bs) low high hs ns answer hs′ ns′ → length hs ≡ chains → length ns ≡ most
+      → Chained (drawn text bs) low high hs′ ns′
+  chained {hs = hs} {ns = ns} m eh en =
+      let n : length (drawn text bs) ≤ most = omega (arith, w .few, drawn-length text bs) in
+      made-chained m (m .told ∙ room-so (length (drawn text bs)) (length hs) (length ns) (omega arith) eh (omega arith))
 
   -- a fault behind 30 that is told
   pub told-behind : (f i : ℕ) → f < 5 → checkOf (drawn text bs) ≡ refused (faultAt f) i → checked.Refused (31 + f) i ≡ checkedOf (entries text bs)

@@ -1,21 +1,28 @@
--- Each test of the check by what the code reads: the kind of a record, its label, and what the tests of the parts answer. Assumes nothing.
-use mathlib.Core.Path.{_≡_, refl, sym, _∙_}
+-- Each test of the check by what the code reads: the kind of a record, its label, what is found by the chains, and what the tests of
+-- the parts answer. Assumes nothing.
+use mathlib.Core.Path.{_≡_, refl, sym, ap, _∙_}
 use mathlib.Core.Bool.{Bool, true, false, not, _||_}
-use mathlib.Core.List.{List, [], _++_}
-use Prim.Native.Nat.{ℕ, zero, suc, _<_}
-use borrow.Author.Tests.{eq-eqb, ne-eqb}
+use mathlib.Core.List.{List, [], _∷_, _++_}
+use Prim.Native.Nat.{ℕ, zero, suc, _≤_, _<_}
+use native.Mathlib.Omega.{arith}
+use lib.ListN.{length, getD}
+use lib.Dec.{ltb}
+use borrow.Author.Tests.{ne-eqb}
 use Rattle.ground.specs.Words.{bytes}
-use Rattle.refusal.specs.First.{EachBelow, anyBelow}
+use Rattle.refusal.specs.First.{anyBelow}
+use Rattle.refusal.proofs.Says.{refuted, says-once, says-and, says-iff, says-eq, says-le, says-any}
 use Rattle.record.specs.Kinds.{kindAt}
 use Rattle.record.specs.Decode.{countOf, decodeAt}
 use Rattle.record.specs.Entry.{Label, Entry, entryAt, labelNo, entryOf}
-use Rattle.drawing.specs.Needs.{needOf, codeAt}
-use Rattle.drawing.specs.Faults.{kindNo}
+use Rattle.index.specs.Labels.{drawn, kindNo, nameNo, within, labelled}
+use Rattle.index.specs.Chains.{Chained, walkOf}
+use Rattle.index.proofs.Laws.{says-same}
+use Rattle.index.proofs.Drawn.{drawn-length, drawn-kind, drawn-label}
+use Rattle.index.proofs.Found.{found-below}
+use Rattle.drawing.specs.Needs.{Choice, declaring, needOf}
 use Rattle.drawing.specs.Check as check
-use check.{same, within, labelled, twice, namedAt, named, meets, guessAt, guessed, wrongPlace, wrongLabelTest, noSuchPartTest, withoutGuessTest}
-use Rattle.drawing.specs.Drawn.{drawn}
-use Rattle.drawing.proofs.Laws.{any-here, any-none, or-false}
-use Rattle.drawing.proofs.Drawn.{drawn-length, drawn-kind, drawn-label}
+use check.{twice, namedAt, named, meets, guessAt, guessed, wrongPlace, wrongLabelTest, noSuchPartTest, withoutGuessTest}
+use Rattle.drawing.proofs.Laws.{suffix-cancel, any-same, or-false, within-one}
 
 -- ---- tests put together
 
@@ -45,48 +52,24 @@ module _ (text bs : List ℕ) (i kind : ℕ) (k : kind ≡ decodeAt bs i .kind) 
     label-is : labelNo (entryAt (drawn text bs) i) q ≡ l
     label-is = drawn-label text bs i q ∙ sym n
 
-    -- label q of the record is not what its place needs
-    pub wrong-place-is : (code : ℕ) (m : Bool) → code ≡ codeAt kind q → m ≡ meets (drawn text bs) (needOf code) l → not m ≡ wrongPlace (drawn text bs) i q
+    -- label q of the record is not what the code of its place needs
+    pub wrong-place-is : (codes : List ℕ) (m : Bool) → codes ≡ kindAt kind .needs → m ≡ meets (drawn text bs) (needOf (getD codes q 0)) l → not m ≡ wrongPlace (drawn text bs) i q
     unfolding wrongPlace
-    wrong-place-is code m ec em = rw (kind-is, label-is, ← ec, ← em) refl
+    wrong-place-is codes m ec em = rw (kind-is, label-is, ← ec, ← em) refl
 
   module _ (low high : ℕ) where
-    pub labelled-no : (l : Label) → within low high kind ≡ false → false ≡ labelled (drawn text bs) low high l i
-    unfolding labelled
-    labelled-no l e = rw (kind-is, e) refl
-
-    pub labelled-yes : (l name : Label) → within low high kind ≡ true → name ≡ labelNo (entryOf text (decodeAt bs i)) 0
-        → same name l ≡ labelled (drawn text bs) low high l i
-    unfolding labelled
-    labelled-yes l name e n = rw (kind-is, e, label-is 0 name n) refl
-
     pub twice-no : within low high kind ≡ false → false ≡ twice (drawn text bs) low high i
     unfolding twice
     twice-no e = rw (kind-is, e) refl
 
-    pub twice-yes : (name : Label) → within low high kind ≡ true → name ≡ labelNo (entryOf text (decodeAt bs i)) 0
-        → anyBelow i (labelled (drawn text bs) low high name) ≡ twice (drawn text bs) low high i
+    -- what is found by the record's own label stands before it
+    pub twice-yes : (hs ns : List ℕ) → Chained (drawn text bs) low high hs ns → i < countOf bs → (name : Label) (r : ℕ)
+        → within low high kind ≡ true → name ≡ labelNo (entryOf text (decodeAt bs i)) 0 → r ≡ walkOf (drawn text bs) low high hs ns name
+        → ltb r i ≡ twice (drawn text bs) low high i
     unfolding twice
-    twice-yes name e n = rw (kind-is, e, label-is 0 name n) refl
-
-  module _ (want : ℕ) (suffix l : Label) where
-    pub named-no : (kind ≡ want → ⊥) → false ≡ namedAt (drawn text bs) want suffix l i
-    unfolding namedAt
-    named-no f = rw (kind-is, ne-eqb kind want f) refl
-
-    pub named-yes : (name : Label) → kind ≡ want → name ≡ labelNo (entryOf text (decodeAt bs i)) 0
-        → same l (name ++ suffix) ≡ namedAt (drawn text bs) want suffix l i
-    unfolding namedAt
-    named-yes name e n = rw (kind-is, eq-eqb kind want e, label-is 0 name n) refl
-
-    pub guess-no : (kind ≡ want → ⊥) → false ≡ guessAt (drawn text bs) want suffix l i
-    unfolding guessAt
-    guess-no f = rw (kind-is, ne-eqb kind want f) refl
-
-    pub guess-yes : (name : Label) → kind ≡ want → name ≡ labelNo (entryOf text (decodeAt bs i)) 0
-        → same name (l ++ suffix) ≡ guessAt (drawn text bs) want suffix l i
-    unfolding guessAt
-    guess-yes name e n = rw (kind-is, eq-eqb kind want e, label-is 0 name n) refl
+    twice-yes hs ns c h name r e n er =
+        rw (kind-is, e, label-is 0 name n, er)
+        (found-below (drawn text bs) low high low high hs ns name c (omega arith) (omega arith) i (omega (arith, h, drawn-length text bs)))
 
   pub wrong-label-no : within 4 23 kind ≡ false → false ≡ wrongLabelTest (drawn text bs) i
   unfolding wrongLabelTest
@@ -125,36 +108,56 @@ module _ (text bs : List ℕ) (i kind : ℕ) (k : kind ≡ decodeAt bs i .kind) 
   unfolding withoutGuessTest
   lacks-none f g h = rw (kind-is, ne-eqb kind 1 f, ne-eqb kind 2 g, ne-eqb kind 3 h) refl
 
--- ---- searches through all records
+-- ---- what is found by the chains
 
-module _ (text bs : List ℕ) (kind : ℕ) (suffix l : Label) where
-  pub named-here : (j : ℕ) → j < countOf bs → namedAt (drawn text bs) kind suffix l j ≡ true → true ≡ named (drawn text bs) kind suffix l
-  unfolding named
-  named-here j h e = rw (drawn-length text bs) (any-here (namedAt (drawn text bs) kind suffix l) (countOf bs) j h e)
+-- a record of this kind with this label is found exactly if there is one
+found-any : (text bs : List ℕ) (lo hi kind : ℕ) (hs ns : List ℕ) (l : Label) (r : ℕ) → Chained (drawn text bs) lo hi hs ns → lo ≤ kind → kind ≤ hi
+    → r ≡ walkOf (drawn text bs) kind kind hs ns l → ltb r (countOf bs) ≡ anyBelow (length (drawn text bs)) (labelled (drawn text bs) kind kind l)
+found-any text bs lo hi kind hs ns l r c a b e =
+    rw (e, ← drawn-length text bs) (found-below (drawn text bs) lo hi kind kind hs ns l c a b (length (drawn text bs)) (omega arith))
 
-  pub named-none : EachBelow (countOf bs) (λ j. namedAt (drawn text bs) kind suffix l j ≡ false) → false ≡ named (drawn text bs) kind suffix l
-  unfolding named
-  named-none f = rw (drawn-length text bs) (any-none (namedAt (drawn text bs) kind suffix l) (countOf bs) f)
+module _ (es : List Entry) (kind : ℕ) (suffix l : Label) where
+  -- no label with the suffix behind it is l
+  pub named-none : ((x : Label) → x ++ suffix ≡ l → ⊥) → false ≡ named es kind suffix l
+  unfolding named namedAt
+  named-none f =
+      sym (refuted
+      (says-any _ (λ j. (kindNo es j ≡ kind) × (l ≡ nameNo es j ++ suffix)) (λ j. says-and (says-eq _ _) (says-same _ _)) (length es))
+      (λ w. f (nameNo es (w .0)) (sym (w .2 .1))))
 
-  pub guessed-here : (j : ℕ) → j < countOf bs → guessAt (drawn text bs) kind suffix l j ≡ true → true ≡ guessed (drawn text bs) kind suffix l
-  unfolding guessed
-  guessed-here j h e = rw (drawn-length text bs) (any-here (guessAt (drawn text bs) kind suffix l) (countOf bs) j h e)
+  -- the label before the suffix is looked for
+  named-is : (front : Label) → front ++ suffix ≡ l → anyBelow (length es) (labelled es kind kind front) ≡ named es kind suffix l
+  unfolding named namedAt labelled
+  named-is front e =
+      any-same _ _ (length es) (λ j.
+      says-once
+      (says-and (says-and (says-le kind (kindNo es j)) (says-le (kindNo es j) kind)) (says-same (nameNo es j) front))
+      (says-iff
+      (λ w. ((omega (arith, w .0), omega (arith, w .0)), suffix-cancel (nameNo es j) front suffix (sym (w .1) ∙ sym e)))
+      (λ w. (omega (arith, w .0 .0, w .0 .1), sym e ∙ ap (λ (x : Label). x ++ suffix) (sym (w .1))))
+      (says-and (says-eq (kindNo es j) kind) (says-same l (nameNo es j ++ suffix))))
+      )
 
-  pub guessed-none : EachBelow (countOf bs) (λ j. guessAt (drawn text bs) kind suffix l j ≡ false) → false ≡ guessed (drawn text bs) kind suffix l
-  unfolding guessed
-  guessed-none f = rw (drawn-length text bs) (any-none (guessAt (drawn text bs) kind suffix l) (countOf bs) f)
+  -- the label with the suffix behind it is looked for
+  guessed-is : anyBelow (length es) (labelled es kind kind (l ++ suffix)) ≡ guessed es kind suffix l
+  unfolding guessed guessAt labelled
+  guessed-is = any-same _ _ (length es) (λ j. rw (within-one kind (kindNo es j)) refl)
+
+module _ (text bs : List ℕ) (hs ns : List ℕ) (kind : ℕ) (suffix l : Label) (r : ℕ) where
+  pub named-found : (front : Label) → front ++ suffix ≡ l → Chained (drawn text bs) 1 3 hs ns → 1 ≤ kind → kind ≤ 3
+      → r ≡ walkOf (drawn text bs) kind kind hs ns front → ltb r (countOf bs) ≡ named (drawn text bs) kind suffix l
+  named-found front e c a b er = found-any text bs 1 3 kind hs ns front r c a b er ∙ named-is (drawn text bs) kind suffix l front e
+
+  pub guessed-found : Chained (drawn text bs) 24 25 hs ns → 24 ≤ kind → kind ≤ 25
+      → r ≡ walkOf (drawn text bs) kind kind hs ns (l ++ suffix) → ltb r (countOf bs) ≡ guessed (drawn text bs) kind suffix l
+  guessed-found c a b er = found-any text bs 24 25 kind hs ns (l ++ suffix) r c a b er ∙ guessed-is (drawn text bs) kind suffix l
 
 -- ---- what a code needs
 
 module _ (es : List Entry) (l : Label) (code : ℕ) where
-  pub met-1 : code ≡ 1 → (a : Bool) → a ≡ named es 1 [] l → a ≡ meets es (needOf code) l
-  met-1 e a ea = rw (e, ← ea) (sym (or-false a))
-
-  pub met-2 : code ≡ 2 → (a : Bool) → a ≡ named es 2 [] l → a ≡ meets es (needOf code) l
-  met-2 e a ea = rw (e, ← ea) (sym (or-false a))
-
-  pub met-3 : code ≡ 3 → (a : Bool) → a ≡ named es 3 [] l → a ≡ meets es (needOf code) l
-  met-3 e a ea = rw (e, ← ea) (sym (or-false a))
+  -- a code that needs one choice
+  pub met-one : (k : ℕ) (c : Choice) → needOf k ≡ c ∷ [] → code ≡ k → (a : Bool) → a ≡ named es (declaring (c .shape)) (c .suffix) l → a ≡ meets es (needOf code) l
+  met-one k c n e a ea = rw (e, n, ← ea) (sym (or-false a))
 
   pub met-4 : code ≡ 4 → (a b : Bool) → a ≡ named es 2 [] l → b ≡ named es 3 [] l → (a || b) ≡ meets es (needOf code) l
   met-4 e a b ea eb = rw (e, ← ea, ← eb, or-false b) refl
@@ -167,9 +170,6 @@ module _ (es : List Entry) (l : Label) (code : ℕ) where
       → d ≡ named es 3 (bytes ".b") l → f ≡ named es 3 (bytes ".center") l
       → (a || (b || (c || (d || f)))) ≡ meets es (needOf code) l
   met-6 e a b c d f ea eb ec ed ef = rw (e, ← ea, ← eb, ← ec, ← ed, ← ef, or-false f) refl
-
-  pub met-7 : code ≡ 7 → (a : Bool) → a ≡ named es 2 (bytes ".radius") l → a ≡ meets es (needOf code) l
-  met-7 e a ea = rw (e, ← ea) (sym (or-false a))
 
 pub met-none : (es : List Entry) (l : Label) (code : ℕ) → (code ≡ 1 → ⊥) → (code ≡ 2 → ⊥) → (code ≡ 3 → ⊥) → (code ≡ 4 → ⊥) → (code ≡ 5 → ⊥) → (code ≡ 6 → ⊥)
     → (code ≡ 7 → ⊥) → false ≡ meets es (needOf code) l

@@ -1,37 +1,23 @@
 -- The faults of a drawing as tests, and the check: the first fault of the order, at the lowest record where it holds.
-use mathlib.Core.Bool.{Bool, true, false, not, _&&_, _||_, cond}
+use mathlib.Core.Bool.{Bool, false, not, _&&_, _||_, cond}
 use mathlib.Core.List.{List, [], _∷_, _++_}
 use Prim.Native.Nat.{ℕ, zero, suc, _+_}
-use lib.Dec.{leb, eqb}
+use lib.Dec.{eqb}
 use lib.ListN.{length}
 use Rattle.refusal.specs.First.{anyBelow, Answer, passed, refused, first}
 use Rattle.record.specs.Kinds.{kindAt}
 use Rattle.record.specs.Entry.{Label, Entry, entryAt, labelNo}
 use Rattle.record.specs.Formed.{places, malformedTest}
+use Rattle.index.specs.Labels.{kindNo, nameNo, same, within, labelled}
 use Rattle.drawing.specs.declared.Checked.{Checked}
 use Rattle.drawing.specs.declared.Checked.the-variants as checked
 use Rattle.drawing.specs.Needs.{Shape, point, circle, arc, declaring, Part, parts, Need, needAt}
 use Rattle.drawing.specs.Faults as faults
-use faults.{kindNo, nameNo, Fault, malformed, declared-twice, wrong-label, no-such-part, guessed-twice, without-guess, order, numberOf}
+use faults.{Fault, malformed, declared-twice, wrong-label, no-such-part, guessed-twice, without-guess, order, numberOf}
 
 -- ---- labels
 
--- two labels are the same
-abbrev pub same : Label → Label → Bool
-same [] [] = true
-same [] (b ∷ t) = false
-same (a ∷ s) [] = false
-same (a ∷ s) (b ∷ t) = eqb a b && same s t
-
--- a kind from low to high
-abbrev pub within : ℕ → ℕ → ℕ → Bool
-within low high kind = leb low kind && leb kind high
-
--- entry j is of a kind from low to high, and its first label is l
-unfoldable pub labelled : List Entry → ℕ → ℕ → Label → ℕ → Bool
-labelled es low high l j = within low high (kindNo es j) && same (nameNo es j) l
-
--- entry i is of such a kind, and an earlier one with the same label is too
+-- entry i is of a kind from low to high, and an earlier one with the same label is too
 unfoldable pub twice : List Entry → ℕ → ℕ → ℕ → Bool
 twice es low high i = within low high (kindNo es i) && anyBelow i (labelled es low high (nameNo es i))
 

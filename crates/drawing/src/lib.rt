@@ -1,18 +1,35 @@
 // The added check of a drawing: 30, then 31 to 35.
 mod faults;
-mod labels;
+mod kinds;
 mod search;
 
 ghost use mathlib.Core.Path.{_≡_};
 ghost use mathlib.Core.Bool.{cond};
-ghost use Rattle.record.specs.Formed.{entries};
+ghost use Rattle.record.specs.Formed.{WellFormed, entries};
 ghost use Rattle.record.specs.Decode.{countOf as records-in, decodeAt};
+ghost use Rattle.index.specs.Labels.{drawn};
 ghost use Rattle.drawing.specs.Check.{countBelow, checkedOf};
+ghost use Rattle.drawing.specs.Tables.{Tables};
 use faults::lowest_bad;
-use labels::kind_at;
+use index::HEADS;
+use index::chain;
+use index::labels::kind_at;
+use kinds::FIRST_RULE;
+use kinds::LAST_RULE;
+use kinds::NEW_ARC;
+use kinds::NEW_CIRCLE;
+use kinds::NEW_POINT;
+use kinds::NUMBER_GUESS;
+use kinds::PAIR_GUESS;
 use record::SIZE;
 use record::formed::Formed;
+use record::formed::MOST;
 use record::formed::well_formed;
+
+// The faults behind 30, and the number of the first of them.
+const FAULTS: usize = 5;
+
+const FIRST_FAULT: u8 = 31;
 
 // What is told of a drawing: how many points, circles, arcs and rows it has, or a refusal.
 pub enum Checked {
@@ -50,6 +67,38 @@ fn count(records: &[u8], low: u8, high: u8) -> usize
     m
 }
 
+// The faults behind 30 of a well formed list by number, and within one the lowest record.
+fn check_by(
+    text: &[u8],
+    records: &[u8],
+    heads: &[u16],
+    nexts: &[u16],
+    guess_heads: &[u16],
+    guess_nexts: &[u16],
+) -> Checked
+    requires { ⌜ WellFormed (now text) (now records) × Tables (drawn (now text) (now records)) (now heads) (now nexts) (now «guess_heads») (now «guess_nexts») ⌝ }
+    ensures { λ r. ⌜ r ≡ checkedOf (entries (now (text .entry)) (now (records .entry))) ⌝ }
+{
+    let n = records.len() / SIZE;
+    let mut f = 0;
+    while f < FAULTS {
+        let i = lowest_bad(text, records, heads, nexts, guess_heads, guess_nexts, f);
+        if i < n {
+            return Checked::Refused {
+                number: FIRST_FAULT + (f as u8),
+                place: i,
+            };
+        }
+        f += 1;
+    }
+    Checked::Passed {
+        points: count(records, NEW_POINT, NEW_POINT),
+        circles: count(records, NEW_CIRCLE, NEW_CIRCLE),
+        arcs: count(records, NEW_ARC, NEW_ARC),
+        rows: count(records, FIRST_RULE, LAST_RULE),
+    }
+}
+
 // The check of a drawing: 30 first, then 31 to 35 by number, and within one the lowest record.
 pub fn check(text: &[u8], records: &[u8]) -> Checked
     ensures { λ r. ⌜ r ≡ checkedOf (entries (now (text .entry)) (now (records .entry))) ⌝ }
@@ -57,22 +106,18 @@ pub fn check(text: &[u8], records: &[u8]) -> Checked
     if let Formed::Refused { number, place } = well_formed(text, records) {
         return Checked::Refused { number, place };
     }
-    let n = records.len() / SIZE;
-    let mut f = 0;
-    while f < 5 {
-        let i = lowest_bad(text, records, f);
-        if i < n {
-            return Checked::Refused {
-                number: 31 + (f as u8),
-                place: i,
-            };
-        }
-        f += 1;
-    }
-    Checked::Passed {
-        points: count(records, 1, 1),
-        circles: count(records, 2, 2),
-        arcs: count(records, 3, 3),
-        rows: count(records, 4, 23),
-    }
+    let mut heads = [0u16; HEADS];
+    let mut nexts = [0u16; MOST];
+    chain(text, records, NEW_POINT, NEW_ARC, &mut heads, &mut nexts);
+    let mut guess_heads = [0u16; HEADS];
+    let mut guess_nexts = [0u16; MOST];
+    chain(
+        text,
+        records,
+        PAIR_GUESS,
+        NUMBER_GUESS,
+        &mut guess_heads,
+        &mut guess_nexts,
+    );
+    check_by(text, records, &heads, &nexts, &guess_heads, &guess_nexts)
 }

@@ -5,8 +5,9 @@ use mathlib.Core.Path.{_≡_, refl, ap, _∙_}
 use Prim.Native.Nat.{_-_, _≤_}
 use native.Mathlib.Omega.{arith}
 use Rattle.record.specs.Decode.{countOf, decodeAt}
-use Rattle.drawing.specs.Check.{within, countBelow}
-use Rattle.drawing.proofs.Drawn.{count-more, one-small}
+use Rattle.index.specs.Labels.{within}
+use Rattle.drawing.specs.Check.{countBelow}
+use Rattle.drawing.proofs.Laws.{count-more, one-small}
 use Rattle.drawing.proofs.count.Statement.{statement}
 use Rattle.drawing.proofs.count.Tie as tie
 

@@ -7,24 +7,25 @@ use Prim.Native.Nat.{_-_, _≤_}
 use native.Mathlib.Omega.{arith}
 use Rattle.refusal.specs.First.{EachBelow}
 use Rattle.record.specs.Decode.{countOf}
+use Rattle.index.specs.Labels.{drawn}
+use Rattle.index.proofs.First.{lowest-here, lowest-nowhere}
+use Rattle.drawing.specs.Faults.{faultAt}
 use Rattle.drawing.specs.Check.{test}
-use Rattle.drawing.specs.Drawn.{drawn, faultAt}
-use Rattle.drawing.proofs.Order.{lowest-here, lowest-nowhere}
 use Rattle.drawing.proofs.faults.lowest_bad.Statement.{statement}
 use Rattle.drawing.proofs.faults.lowest_bad.Tie as tie
 
 abbrev Inv-loop : tie.InvT-loop
-Inv-loop text records f n i₀ i = (n ≡ countOf records) × (i ≤ n) × EachBelow i (λ j. test (drawn text records) (faultAt f) j ≡ false)
+Inv-loop text records heads nexts guess-heads guess-nexts f n i₀ i = (n ≡ countOf records) × (i ≤ n) × EachBelow i (λ j. test (drawn text records) (faultAt f) j ≡ false)
 
 abbrev μ-loop : tie.MeasureT-loop
-μ-loop text records f n i₀ i = n - i
+μ-loop text records heads nexts guess-heads guess-nexts f n i₀ i = n - i
 
 loop-holds : tie.Need-loop-holds Inv-loop μ-loop
 loop-holds c = (refl, omega arith, below-none _)
 
 returns : tie.Need-returns Inv-loop μ-loop
 returns c =
-    let a = c .before .before .before .before .before .before .args in
+    let a = c .before .before .before .before .before .before .before .before .before .before .args in
     let l = c .before .before .before .loop in
     lowest-here (countOf (a .records .now)) (test (drawn (a .text .now) (a .records .now)) (faultAt (a .f))) (l .i) (omega arith) (sym (c .before .bad .ensures) ∙ c .if1 .taken) (l .inv .2)
 
@@ -35,7 +36,7 @@ loop-again c =
 
 returns-2 : tie.Need-returns-2 Inv-loop μ-loop
 returns-2 c =
-    let a = c .before .before .before .before .args in
+    let a = c .before .before .before .before .before .before .before .before .args in
     let l = c .before .loop in
     lowest-nowhere (countOf (a .records .now)) (test (drawn (a .text .now) (a .records .now)) (faultAt (a .f))) (λ j h. l .inv .2 j (omega arith))
 

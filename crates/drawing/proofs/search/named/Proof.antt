@@ -1,42 +1,45 @@
--- `drawing::search::named` meets its contract: no place passed is one that is looked for. The measure is what is left. Assumes nothing.
+-- `drawing::search::named` meets its contract: of a label that ends in the suffix, what stands before it is found or not. Assumes nothing.
 use borrow.Author.Needs.{needs}
-use borrow.Author.Count.{below-none, below-more}
-use mathlib.Core.Path.{_≡_, sym, _∙_}
-use mathlib.Core.Bool.{false}
-use Prim.Native.Nat.{_-_, _≤_}
+use borrow.Author.Tests.{not-true, not-false}
+use mathlib.Core.Path.{sym, _∙_}
+use Prim.Native.Nat.{_-_}
 use native.Mathlib.Omega.{arith}
-use Rattle.refusal.specs.First.{EachBelow}
-use Rattle.drawing.specs.Check.{namedAt}
-use Rattle.drawing.specs.Drawn.{drawn}
-use Rattle.drawing.proofs.Read.{named-here, named-none}
+use lib.ListN.{length, take}
+use lib.Seq.{length-take-le}
+use Rattle.index.specs.Labels.{drawn}
+use Rattle.index.proofs.Laws.{rest-of}
+use Rattle.drawing.proofs.Laws.{too-short, ends-else, ends-so}
+use Rattle.drawing.proofs.Read.{named-none, named-found}
 use Rattle.drawing.proofs.search.named.Statement.{statement}
 use Rattle.drawing.proofs.search.named.Tie as tie
 
-abbrev Inv-loop : tie.InvT-loop
-Inv-loop text records kind suffix label n j₀ j = (j ≤ n) × EachBelow j (λ k. namedAt (drawn text records) kind suffix label k ≡ false)
-
-abbrev μ-loop : tie.MeasureT-loop
-μ-loop text records kind suffix label n j₀ j = n - j
-
-loop-holds : tie.Need-loop-holds Inv-loop μ-loop
-loop-holds c = (omega arith, below-none _)
-
-returns : tie.Need-returns Inv-loop μ-loop
+returns : tie.Need-returns
 returns c =
-    let a = c .before .before .before .before .before .before .before .before .args in
-    let l = c .before .before .before .loop in
-    named-here (a .text .now) (a .records .now) (a .kind) (a .suffix .now) (a .label .now) (l .j) (omega arith) (sym (c .before .named-at .ensures) ∙ c .if1 .taken)
+    let a = c .before .before .before .before .before .before .before .args in
+    named-none (drawn (a .text .now) (a .records .now)) (a .kind) (a .suffix .now) (a .label .now) (too-short (a .label .now) (a .suffix .now) (c .if1 .taken))
 
-loop-again : tie.Need-loop-again Inv-loop μ-loop
-loop-again c =
-    let l = c .before .before .before .loop in
-    (omega arith, below-more _ (l .j) (l .inv .1) (sym (c .before .named-at .ensures) ∙ c .if1 .left))
-
-returns-2 : tie.Need-returns-2 Inv-loop μ-loop
+returns-2 : tie.Need-returns-2
 returns-2 c =
-    let a = c .before .before .before .before .before .before .args in
-    let l = c .before .loop in
-    named-none (a .text .now) (a .records .now) (a .kind) (a .suffix .now) (a .label .now) (λ k h. l .inv .1 k (omega arith))
+    let a = c .before .before .before .before .before .before .before .before .before .before .args in
+    named-none (drawn (a .text .now) (a .records .now)) (a .kind) (a .suffix .now) (a .label .now)
+    (ends-else (a .label .now) (a .suffix .now) (sym (rw (rest-of (a .label .now) (length (a .label .now) - length (a .suffix .now))) at (c .before .same .ensures)) ∙ not-true _ (c .if2 .taken)))
+
+slice-aggregate-find : tie.Need-slice-aggregate-find
+slice-aggregate-find c =
+    let a = c .before .before .before .before .before .before .before .before .before .before .before .args in
+    sym (length-take-le (length (a .label .now) - length (a .suffix .now)) (a .label .now) (omega arith))
+
+returns-3 : tie.Need-returns-3
+returns-3 c =
+    let s = c .before .before .before .before .before .before .before .before .before .before .before .before in
+    let a = s .args in
+    named-found (a .text .now) (a .records .now) (a .heads .now) (a .nexts .now) (a .kind) (a .suffix .now) (a .label .now) _ (take (length (a .label .now) - length (a .suffix .now)) (a .label .now))
+    (ends-so (a .label .now) (a .suffix .now) (sym (rw (rest-of (a .label .now) (length (a .label .now) - length (a .suffix .now))) at (c .before .before .before .same .ensures)) ∙ not-false _ (c .before .before .if2 .left)))
+    (s .pre .0) (s .pre .1) (s .pre .2) (c .find .ensures)
 
 pub named-spec : {M : Type 1} → statement M
-named-spec = tie.close (tie.spec Inv-loop μ-loop loop-holds (λ c κs. search needs) returns (λ c. omega arith) (λ c. omega arith) loop-again returns-2)
+named-spec =
+    tie.close (
+    tie.spec returns (λ c. search needs) (λ c. search needs) (λ c. search needs) (λ c. search needs) (λ c κs. search needs) returns-2 slice-aggregate-find
+    (λ c κs. search needs) returns-3
+    )

@@ -1,0 +1,59 @@
+-- `drawing::check_by` meets its contract: behind 30 the check is that of the faults that are left. The measure is how many are left.
+-- Assumes nothing.
+use borrow.Author.Needs.{needs}
+use mathlib.Core.Path.{_≡_, _∙_}
+use Prim.Native.Nat.{_-_, _≤_}
+use native.Mathlib.Omega.{arith}
+use lib.ListN.{drop}
+use Rattle.refusal.specs.First.{first}
+use Rattle.record.specs.Decode.{countOf}
+use Rattle.index.specs.Labels.{drawn}
+use Rattle.drawing.specs.Faults.{behind30}
+use Rattle.drawing.specs.Check.{test, checkOf}
+use Rattle.drawing.proofs.Order.{stops, goes-on, ends, check-is, told-behind, told-none}
+use Rattle.drawing.proofs.check_by.Statement.{statement}
+use Rattle.drawing.proofs.check_by.Tie as tie
+
+abbrev Inv-loop : tie.InvT-loop
+Inv-loop text records heads nexts guess-heads guess-nexts n f₀ f =
+    (f ≤ 5) × (checkOf (drawn text records) ≡ first (drop f behind30) (test (drawn text records)) (countOf records))
+
+abbrev μ-loop : tie.MeasureT-loop
+μ-loop text records heads nexts guess-heads guess-nexts n f₀ f = 5 - f
+
+loop-holds : tie.Need-loop-holds Inv-loop μ-loop
+loop-holds c =
+    let s = c .before .before .before .before .before .before in
+    (omega arith, check-is (s .args .text .now) (s .args .records .now) (s .pre .0))
+
+returns : tie.Need-returns Inv-loop μ-loop
+returns c =
+    let s = c .before .before .before .before .before .before .before .before .before .before in
+    let a = s .args in
+    let l = c .before .before .before .loop in
+    told-behind (a .text .now) (a .records .now) (s .pre .0) (l .f) (c .before .lowest-bad .result) (omega arith)
+    (l .inv .1 ∙ stops (test (drawn (a .text .now) (a .records .now))) (countOf (a .records .now)) (l .f) (omega arith) (c .before .lowest-bad .result) (c .before .lowest-bad .ensures) (omega arith))
+
+loop-again : tie.Need-loop-again Inv-loop μ-loop
+loop-again c =
+    let a = c .before .before .before .before .before .before .before .before .before .before .args in
+    let l = c .before .before .before .loop in (
+      omega arith,
+      l .inv .1 ∙ goes-on (test (drawn (a .text .now) (a .records .now))) (countOf (a .records .now)) (l .f) (omega arith) (c .before .lowest-bad .result) (c .before .lowest-bad .ensures) (omega arith),
+    )
+
+returns-2 : tie.Need-returns-2 Inv-loop μ-loop
+returns-2 c =
+    let s = c .before .before .before .before .before .before .before .before .before .before .before .before in
+    let a = s .args in
+    let l = c .before .before .before .before .before .loop in
+    told-none (a .text .now) (a .records .now) (s .pre .0) _ _ _ _
+    (l .inv .1 ∙ ends (test (drawn (a .text .now) (a .records .now))) (countOf (a .records .now)) (l .f) (omega arith))
+    (c .before .before .before .count .ensures) (c .before .before .count2 .ensures) (c .before .count3 .ensures) (c .count4 .ensures)
+
+pub check-by-spec : {M : Type 1} → statement M
+check-by-spec =
+    tie.close (
+    tie.spec Inv-loop μ-loop loop-holds (λ c κs. search needs) (λ c. search needs) (λ c. search needs) returns (λ c. search needs) (λ c. search needs) loop-again
+    (λ c κs. search needs) (λ c κs. search needs) (λ c κs. search needs) (λ c κs. search needs) returns-2
+    )

@@ -1,0 +1,39 @@
+-- `index::labels::label_of` meets its contract: a label is there up to the count of labels, and up to the places of the record's form. Assumes nothing.
+use borrow.Author.Needs.{needs}
+use mathlib.Core.Path.{_∙_}
+use Prim.Native.Nat.{_+_, _*_, _<_}
+use native.Mathlib.Omega.{arith}
+use lib.ListN.{getD}
+use Rattle.record.specs.Record.{recordBytes}
+use Rattle.index.proofs.Drawn.{placed-few, label-read, label-unread}
+use Rattle.index.proofs.labels.label_of.Statement.{statement}
+use Rattle.index.proofs.labels.label_of.Tie as tie
+
+-- the label's place
+few : (c : tie.Then1) → c .before .before .before .before .before .args .q < 4
+few c =
+    let a = c .before .before .before .before .before .args in
+    placed-few (getD (a .records .now) (a .i * recordBytes + 1) 0) (getD (a .records .now) (a .i * recordBytes + 3) 0) (a .q) (c .if1 .taken)
+
+cast-count : tie.Need-cast-count
+cast-count c = omega (arith, c .shared-slice-known4 .given (c .before .before .before .before .args .i * recordBytes + 3))
+
+returns : tie.Need-returns
+returns c =
+    let a = c .before .before .before .before .before .before .before .before .args in
+    c .part .ensures
+    ∙ rw (c .before .before .u16-at .ensures .is, c .before .u16-at2 .ensures .is)
+    (label-read (a .text .now) (a .records .now) (a .i) (a .q) (c .before .before .before .before .before .before .before .before .pre) (c .before .before .before .if1 .taken))
+
+returns-2 : tie.Need-returns-2
+returns-2 c =
+    let a = c .before .before .before .before .before .before .args in
+    c .part2 .ensures ∙ label-unread (a .text .now) (a .records .now) (a .i) (a .q) (c .before .before .before .before .before .before .pre) (c .before .if1 .left)
+
+pub label-of-spec : {M : Type 1} → statement M
+label-of-spec =
+    tie.close (
+    tie.spec (λ c. search needs) (λ c. search needs) (λ c. search needs) (λ c. search needs) (λ c. search needs) cast-count (λ c. search needs)
+    (λ c. omega (arith, few c)) (λ c. omega (arith, few c)) (λ c κs. omega (arith, few c)) (λ c. omega (arith, few (c .before)))
+    (λ c κs. omega (arith, few (c .before))) (λ c κs. search needs) (λ c κs. search needs) returns returns-2
+    )

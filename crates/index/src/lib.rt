@@ -1,0 +1,176 @@
+// Which record has a label: chains of records by the hash of their first labels, and a walk along one.
+pub mod labels;
+
+ghost use mathlib.Core.Path.{_≡_};
+ghost use mathlib.Core.Bool.{true};
+ghost use mathlib.Core.List.{_++_};
+ghost use Prim.Native.Nat.{ℕ, _≤_, _<_};
+ghost use lib.ListN.{length, getD};
+ghost use Rattle.record.specs.Decode.{countOf as records-in};
+ghost use Rattle.index.specs.Labels.{drawn, labelled as is-labelled};
+ghost use Rattle.index.specs.Chains.{chains, room as has-room, hashFrom, Made, Links, walk as walked, walkOf};
+use labels::kind_of;
+use labels::label_of;
+use labels::same_with;
+use record::SIZE;
+
+// How many chains there are, and the most records that they hold.
+pub const HEADS: usize = 1_024;
+
+pub const MOST: usize = 65_534;
+
+// Whether tables of these lengths have room for n records.
+fn room(n: usize, heads: usize, nexts: usize) -> bool
+    ensures { λ r. ⌜ r ≡ has-room n heads nexts ⌝ }
+{
+    (n <= MOST) & ((heads == HEADS) & (n <= nexts))
+}
+
+// The hash of a label, from a hash on.
+fn hash(start: usize, l: &[u8]) -> usize
+    requires { ⌜ start < chains ⌝ }
+    ensures { λ r. ⌜ (r ≡ hashFrom start (now (l .entry))) × (r < chains) ⌝ }
+{
+    let mut h = start;
+    let mut i = 0;
+    while i < l.len() {
+        h = (h * 37 + (l[i] as usize)) % HEADS;
+        i += 1;
+    }
+    h
+}
+
+// A number of two bytes.
+fn wide(x: u16) -> usize
+    ensures { λ r. ⌜ r ≡ x ⌝ }
+{
+    x as usize
+}
+
+// Puts one number everywhere.
+fn fill(heads: &mut [u16], v: u16)
+    ensures { λ _. ⌜ ((h : ℕ) → h < length (now (heads .entry)) → getD (now (heads .exit)) h 0 ≡ v) ⌝ }
+{
+    let mut i = 0;
+    while i < heads.len() {
+        heads[i] = v;
+        i += 1;
+    }
+}
+
+// From the last record to the first: each goes to the front of its chain.
+fn link(text: &[u8], records: &[u8], low: u8, high: u8, heads: &mut [u16], nexts: &mut [u16])
+    requires { ⌜ Links (drawn (now text) (now records)) low high (records-in (now records)) (now heads) (now nexts) (now nexts) ⌝ }
+    ensures { λ _. ⌜ Links (drawn (now (text .entry)) (now (records .entry))) low high 0 (now (heads .exit)) (now (nexts .entry)) (now (nexts .exit)) ⌝ }
+{
+    let n = records.len() / SIZE;
+    let mut i = n;
+    while 0 < i {
+        i -= 1;
+        let kind = kind_of(records, i);
+        if (low <= kind) & (kind <= high) {
+            let h = hash(0, label_of(text, records, i, 0));
+            nexts[i] = heads[h];
+            heads[h] = i as u16;
+        } else {
+            nexts[i] = n as u16;
+        }
+    }
+}
+
+// Chains the records of a kind from low to high, and tells whether the tables had room; where they had none they stay as they were.
+pub fn chain(
+    text: &[u8],
+    records: &[u8],
+    low: u8,
+    high: u8,
+    heads: &mut [u16],
+    nexts: &mut [u16],
+) -> bool
+    ensures { λ r. ⌜ Made (drawn (now (text .entry)) (now (records .entry))) low high (now (heads .entry)) (now (nexts .entry)) r (now (heads .exit)) (now (nexts .exit)) ⌝ }
+{
+    let n = records.len() / SIZE;
+    if !room(n, heads.len(), nexts.len()) {
+        return false;
+    }
+    fill(heads, n as u16);
+    link(text, records, low, high, heads, nexts);
+    true
+}
+
+// Whether a record that is there is of a kind from low to high and has the first label a with b behind it.
+fn labelled(text: &[u8], records: &[u8], low: u8, high: u8, a: &[u8], b: &[u8], i: usize) -> bool
+    requires { ⌜ i < records-in (now records) ⌝ }
+    ensures { λ r. ⌜ r ≡ is-labelled (drawn (now (text .entry)) (now (records .entry))) low high (now (a .entry) ++ now (b .entry)) i ⌝ }
+{
+    let kind = kind_of(records, i);
+    if (low <= kind) & (kind <= high) {
+        return same_with(label_of(text, records, i, 0), a, b);
+    }
+    false
+}
+
+// The walk along a chain from a record on.
+fn walk(
+    text: &[u8],
+    records: &[u8],
+    low: u8,
+    high: u8,
+    nexts: &[u16],
+    a: &[u8],
+    b: &[u8],
+    start: usize,
+) -> usize
+    requires { ⌜ records-in (now records) ≤ length (now nexts) ⌝ }
+    ensures { λ r. ⌜ r ≡ walked (drawn (now (text .entry)) (now (records .entry))) low high (now (nexts .entry)) (now (a .entry) ++ now (b .entry)) (records-in (now (records .entry))) start ⌝ }
+{
+    let n = records.len() / SIZE;
+    let mut i = start;
+    while i < n {
+        if labelled(text, records, low, high, a, b, i) {
+            return i;
+        }
+        let next = wide(nexts[i]);
+        if next <= i {
+            return n;
+        }
+        i = next;
+    }
+    n
+}
+
+// The first record of a kind from low to high whose first label is a with b behind it, by the chains, or the number of records.
+pub fn find_two(
+    text: &[u8],
+    records: &[u8],
+    low: u8,
+    high: u8,
+    heads: &[u16],
+    nexts: &[u16],
+    a: &[u8],
+    b: &[u8],
+) -> usize
+    ensures { λ r. ⌜ r ≡ walkOf (drawn (now (text .entry)) (now (records .entry))) low high (now (heads .entry)) (now (nexts .entry)) (now (a .entry) ++ now (b .entry)) ⌝ }
+{
+    let n = records.len() / SIZE;
+    if !room(n, heads.len(), nexts.len()) {
+        return n;
+    }
+    let h = hash(hash(0, a), b);
+    walk(text, records, low, high, nexts, a, b, wide(heads[h]))
+}
+
+// The same for one label.
+pub fn find(
+    text: &[u8],
+    records: &[u8],
+    low: u8,
+    high: u8,
+    heads: &[u16],
+    nexts: &[u16],
+    label: &[u8],
+) -> usize
+    ensures { λ r. ⌜ r ≡ walkOf (drawn (now (text .entry)) (now (records .entry))) low high (now (heads .entry)) (now (nexts .entry)) (now (label .entry)) ⌝ }
+{
+    find_two(text, records, low, high, heads, nexts, label, b"")
+}
