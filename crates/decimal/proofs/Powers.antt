@@ -1,14 +1,13 @@
 -- The powers of ten up to 10^22 are f64s: 10^a is 5^a times 2^a, and 5^22 is below 2^53. Assumes nothing.
 use mathlib.Core.Path.{_≡_, refl}
 use mathlib.Core.Bool.{false}
-use mathlib.Core.List.{List, [], _∷_}
+use mathlib.Core.Logic.{⊎-elim}
 use Prim.Native.Nat.{ℕ, zero, suc, _+_, _*_, _^_, _≤_, _<_}
-use native.Mathlib.Nat.{mul-assoc, mul-mul-mul-comm, mul-one, mul-pos, pow-suc, pow-le-pow-right, lt-of-le-of-lt, lt-of-lt-of-le, le-of-suc-le-suc, not-suc-le-zero, zero-add, add-zero, add-suc, suc-add}
+use native.Mathlib.Nat.{mul-assoc, mul-mul-mul-comm, mul-one, mul-pos, pow-suc, pow-le-pow-right, lt-of-le-of-lt, lt-of-lt-of-le, eq-or-lt-of-le}
 use native.Mathlib.Omega.{arith}
 use lib.Dec.{lit<}
-use lib.ListN.{getD}
 use lib.Pow.{pow-add, pow-mono, shl-lt}
-use lib.Ieee.{Float, nan, binary64, ofInt}
+use lib.Ieee.{binary64, ofInt}
 use lib.Ieee.Exact.{HasValue, round-exact}
 use Rattle.decimal.specs.Decimal.{power, whole}
 
@@ -34,21 +33,13 @@ power-exact a h =
     (lt-of-lt-of-le (shl-lt 53 (a + 1074) (few a h)) (pow-mono (fine a h)))
     (rw (mul-one, pow-add 2 a 1074, five-two a) (mul-assoc (5 ^ a) (2 ^ a) (2 ^ 1074)))
 
--- ---- the table
+-- ---- which power
 
--- n powers of ten, from 10^i on
-abbrev powersFrom : ℕ → ℕ → List Float
-powersFrom i zero = []
-powersFrom i (suc n) = whole (10 ^ i) ∷ powersFrom (suc i) n
+-- a is none of 0 to n - 1, as a match with these arms leaves it
+abbrev pub NoneBelow : ℕ → ℕ → Type 0
+NoneBelow zero a = Unit {0}
+NoneBelow (suc n) a = NoneBelow n a × (a ≡ n → ⊥)
 
-from-at : (i n a : ℕ) → a < n → getD (powersFrom i n) a nan ≡ whole (10 ^ (i + a))
-from-at i zero a h = absurd (not-suc-le-zero h)
-from-at i (suc n) zero h = rw add-zero
-from-at i (suc n) (suc a) h = rw (add-suc, ← suc-add) (from-at (suc i) n a (le-of-suc-le-suc h))
-
--- 10^0 to 10^22
-abbrev pub powers : List Float
-powers = powersFrom 0 (suc power)
-
-pub powers-at : (a : ℕ) → a ≤ power → getD powers a nan ≡ whole (10 ^ a)
-powers-at a h = rw (from-at 0 (suc power) a (omega arith), zero-add)
+pub none-below : (n a : ℕ) → NoneBelow n a → n ≤ a
+none-below zero a h = omega arith
+none-below (suc n) a h = ⊎-elim (λ (e : n ≡ a). absurd (h .1 (omega arith))) (λ (l : n < a). l) (eq-or-lt-of-le (none-below n a (h .0)))

@@ -22,39 +22,36 @@ pub const LIMIT: u64 = 1_000_000_000_000_000;
 // k is from minus this to this.
 pub const POWER: u64 = 22;
 
-// 10^0 to 10^22, each of them exact.
-const POWERS: [f64; 23] = [
-    1e0,
-    1e1,
-    1e2,
-    1e3,
-    1e4,
-    1e5,
-    1e6,
-    1e7,
-    1e8,
-    1e9,
-    1e10,
-    1e11,
-    1e12,
-    1e13,
-    1e14,
-    1e15,
-    1e16,
-    1e17,
-    1e18,
-    1e19,
-    1e20,
-    1e21,
-    1e22,
-];
-
 // 10^a.
 fn ten_to(a: u64) -> f64
     requires { ⌜ a ≤ power ⌝ }
     ensures { λ r. ⌜ r ≡ whole (10 ^ a) ⌝ }
 {
-    POWERS[a as usize]
+    match a {
+        0 => 1e0,
+        1 => 1e1,
+        2 => 1e2,
+        3 => 1e3,
+        4 => 1e4,
+        5 => 1e5,
+        6 => 1e6,
+        7 => 1e7,
+        8 => 1e8,
+        9 => 1e9,
+        10 => 1e10,
+        11 => 1e11,
+        12 => 1e12,
+        13 => 1e13,
+        14 => 1e14,
+        15 => 1e15,
+        16 => 1e16,
+        17 => 1e17,
+        18 => 1e18,
+        19 => 1e19,
+        20 => 1e20,
+        21 => 1e21,
+        _ => 1e22,
+    }
 }
 
 // How far k is from 0.

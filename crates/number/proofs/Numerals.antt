@@ -8,13 +8,16 @@ use native.Mathlib.Decide.{decLe}
 use native.Mathlib.Omega.{arith}
 use lib.Dec.{leb, leb→le}
 use lib.ListN.{length, getD}
-use lib.Ieee.Fits.{and-l}
+use lib.Ieee.Fits.{and-l, and-r}
 use Rattle.text.specs.Text.{run, runTo}
 use Rattle.text.proofs.Laws.{run-more, runTo-more}
 use Rattle.number.specs.Number.{isDigit, digitsAt, digitsTo, numeral, capped, Run}
 
 pub digit-least : (b : ℕ) → isDigit b ≡ true → 48 ≤ b
 digit-least b e = leb→le 48 b (and-l (leb 48 b) (leb b 57) (rw e tt))
+
+pub digit-most : (b : ℕ) → isDigit b ≡ true → b ≤ 57
+digit-most b e = leb→le b 57 (and-r (leb 48 b) (leb b 57) (rw e tt))
 
 -- ---- the number that digits write
 

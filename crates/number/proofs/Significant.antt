@@ -7,11 +7,10 @@ use Prim.Native.Nat.{ℕ, zero, suc, _+_, _-_, _*_, _^_, _≤_, _<_}
 use native.Mathlib.Nat.{pow-succ', pow-le-pow-right, le-trans, lt-of-lt-of-le, lt-of-not-le, not-le-of-lt, mul-assoc, one-mul, one-le-pow, mul-le-mul-right}
 use native.Mathlib.Omega.{arith}
 use borrow.Author.Tests.{eqb-false}
-use lib.Dec.{eqb, leb, leb→le, eqb→eq}
+use lib.Dec.{eqb, eqb→eq}
 use lib.ListN.{length, drop}
-use lib.Ieee.Fits.{and-r}
 use Rattle.text.specs.Text.{run}
-use Rattle.number.proofs.Numerals.{digit-least}
+use Rattle.number.proofs.Numerals.{digit-least, digit-most}
 use Rattle.number.specs.Number.{isDigit, digitsAt, numeral, joined, partAt}
 
 -- digits without their leading zeros
@@ -39,9 +38,6 @@ both-digits (d ∷ ds) b h k = (h .0, both-digits ds b (h .1) k)
 
 -- ---- between which powers of ten a number lies
 
-most : (d : ℕ) → isDigit d ≡ true → d ≤ 57
-most d e = leb→le d 57 (and-r (leb 48 d) (leb d 57) (rw e tt))
-
 -- a digit that is not 0
 other : (d : ℕ) → isDigit d ≡ true → eqb d 48 ≡ false → 48 < d
 other d e f = omega (arith, digit-least d e, eqb-false d 48 f)
@@ -60,7 +56,7 @@ unfolding numeral
 below m [] h = omega arith
 below m (d ∷ ds) h =
     rw (shift (m + 1) (length ds))
-    (lt-of-lt-of-le (below (m * 10 + (d - 48)) ds (h .1)) (mul-le-mul-right (10 ^ length ds) (omega (arith, most d (h .0)))))
+    (lt-of-lt-of-le (below (m * 10 + (d - 48)) ds (h .1)) (mul-le-mul-right (10 ^ length ds) (omega (arith, digit-most d (h .0)))))
 
 -- ---- leading zeros
 
@@ -69,7 +65,7 @@ module _ (d : ℕ) (ds : List ℕ) (n : ℕ) (h : AllDigits (d ∷ ds)) where
   short-below : suc (length ds) ≤ n → numeral 0 (d ∷ ds) < 10 ^ n
   unfolding numeral
   short-below l =
-      let one-digit : 0 * 10 + (d - 48) + 1 ≤ 10 = omega (arith, most d (h .0)) in
+      let one-digit : 0 * 10 + (d - 48) + 1 ≤ 10 = omega (arith, digit-most d (h .0)) in
       lt-of-lt-of-le (below (0 * 10 + (d - 48)) ds (h .1))
       (le-trans (mul-le-mul-right (10 ^ length ds) one-digit) (rw (← pow-succ' 10 (length ds)) (pow-le-pow-right (omega arith) l)))
 

@@ -1,7 +1,8 @@
 // Numbers and expressions at a place of a text, as the bits of an f64.
 ghost use mathlib.Core.Path.{_≡_};
-ghost use mathlib.Core.Bool.{true};
-ghost use Prim.Native.Nat.{_+_, _-_, _*_, _^_, _<_, _≤_};
+ghost use mathlib.Core.Bool.{Bool, true};
+ghost use Prim.Native.Nat.{ℕ, _+_, _-_, _*_, _^_, _<_, _≤_};
+ghost use Rattle.decimal.specs.Decimal.{carried};
 ghost use Rattle.number.specs.Number.{isDigit, isSign, isPoint, isExponent, isWord, after, capped, Run, Joined, longest, carriedBy, exponentAt, cappedExponent, valued, scaled, noNumber, numberAt, numberOn, closed, exprAt, exprOn};
 use decimal::Carried;
 use decimal::Scale;
@@ -73,6 +74,9 @@ fn push(m: u64, digit: u8, limit: u64) -> u64
     requires { ⌜ (m ≤ limit) × (limit ≤ longest) × (isDigit digit ≡ true) ⌝ }
     ensures { λ r. ⌜ r ≡ capped limit (m * 10 + (digit - 48)) ⌝ }
 {
+    if m < limit / 10 {
+        return m * 10 + (digit - b'0') as u64;
+    }
     if limit / 10 < m {
         return limit;
     }
@@ -166,21 +170,29 @@ fn exponent_at(text: &[u8], at: usize) -> Exponent
     }
 }
 
+// The exponent less the count of digits after the point: a scale that carries what that one carries.
+fn power(below: bool, size: u64, count: u64) -> Scale
+    requires { ⌜ count < 2 ^ 63 ⌝ }
+    ensures { λ r. ⌜ ((m : ℕ) (negative : Bool) → carried m r negative ≡ carriedBy m negative below size count) ⌝ }
+{
+    if below {
+        if decimal::POWER < size {
+            return Scale::Over(size);
+        }
+        return Scale::Over(size + count);
+    }
+    if count <= size {
+        return Scale::Times(size - count);
+    }
+    Scale::Over(count - size)
+}
+
 // m times ten to the exponent less the count of digits after the point.
 fn carry(m: u64, negative: bool, below: bool, size: u64, count: u64) -> Carried
     requires { ⌜ count < 2 ^ 63 ⌝ }
     ensures { λ r. ⌜ r ≡ carriedBy m negative below size count ⌝ }
 {
-    if below {
-        if decimal::POWER < size {
-            return Carried::Outside;
-        }
-        return decimal::decimal(m, Scale::Over(size + count), negative);
-    }
-    if count <= size {
-        return decimal::decimal(m, Scale::Times(size - count), negative);
-    }
-    decimal::decimal(m, Scale::Over(count - size), negative)
+    decimal::decimal(m, power(below, size, count), negative)
 }
 
 // No number: where reading stands instead.

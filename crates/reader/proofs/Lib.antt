@@ -1,3 +1,4 @@
+pub mod Begin
 pub mod Choice
 pub mod Table
 pub mod Words

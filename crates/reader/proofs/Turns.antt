@@ -14,7 +14,8 @@ use Rattle.text.specs.declared.Stand.the-variants.{At, Nothing, Refused}
 use Rattle.text.proofs.Laws.{handed}
 use Rattle.text.proofs.Stand.{the-type}
 use Rattle.reader.specs.declared.forms.Line.{Line}
-use Rattle.reader.specs.Page.{recordsOf, Lines, none, after, lineOn, stopped, follow, restOf, due, linesOn, headingOn, optNewlineOn, problemOf, stored, Stored, StoredLines, Paged}
+use Rattle.reader.specs.Forms.{orStand}
+use Rattle.reader.specs.Page.{recordsOf, Lines, none, after, lineOn, stopped, follow, restOf, missed, due, linesOn, headingOn, optNewlineOn, problemOf, stored, Stored, StoredLines, Paged}
 use Rattle.reader.proofs.Storing.{stored-length, stored-append}
 
 -- a line has one record or two
@@ -25,87 +26,91 @@ few-records l = go (l .twin) refl
     go true e = rw e (omega arith)
     go false e = rw e (omega arith)
 
--- ---- one line of those that may follow
+-- ---- what is left to read
 
-module _ (g : Bool) (s : List ℕ) (at m k : ℕ) (h : k < m) where
-  one : m - k ≡ suc (m - (k + 1))
-  one = omega arith
+-- at most so many lines, the next of which is due at a stand; where it does not read, reading stands at the other
+pub leftOf : ℕ → Bool → List ℕ → Stand → Stand → Lines
+leftOf zero g s stand other = none other
+leftOf (suc most) g s stand other =
+    let l = lineOn g s stand in
+    from (l .then) (none (orStand (l .then) (l .then) other)) (λ next. after (recordsOf l) (restOf most g s next))
 
-  pub line-here : restOf (m - k) g s at ≡ follow (lineOn g s (newlineOn s (At at))) at (restOf (m - (k + 1)) g s)
-  unfolding restOf
-  line-here = rw one
+rest-left : (most : ℕ) (g : Bool) (s : List ℕ) (at : ℕ) → restOf most g s at ≡ leftOf most g s (newlineOn s (At at)) (At at)
+unfolding restOf leftOf
+rest-left zero g s at = refl
+rest-left (suc most) g s at = refl
 
--- ---- what holds at the loop's head: k lines have followed, n is the next place, and `at` the last line's end
+-- what is missed is no place
+missed-none : (stand : Stand) (number : ℕ) (read : ℕ → Lines) → from (missed stand number) (none (missed stand number)) read ≡ none (missed stand number)
+missed-none (At place) number read = refl
+missed-none Nothing number read = refl
+missed-none (Refused code place) number read = refl
 
-pub record Left (g : Bool) (s d₀ : List ℕ) (start : ℕ) (all : Lines) (d : List ℕ) (n at k : ℕ) : Type 0 where
-  pub buffer : stored d₀ start (all .records) ≡ stored d n (restOf (length s - k) g s at .records)
-  pub count : start + length (all .records) ≡ n + length (restOf (length s - k) g s at .records)
-  pub then : all .then ≡ restOf (length s - k) g s at .then
+lines-left : (g : Bool) (s : List ℕ) (stand : Stand) (number : ℕ) → linesOn g s stand number ≡ leftOf (suc (length s)) g s stand (missed stand number)
+unfolding linesOn leftOf
+lines-left g s stand number = go (lineOn g s stand .then) (λ next. after (recordsOf (lineOn g s stand)) (restOf (length s) g s next))
+  where
+    go : (t : Stand) (read : ℕ → Lines)
+        → from (orStand t t (missed stand number)) (none (orStand t t (missed stand number))) read ≡ from t (none (orStand t t (missed stand number))) read
+    go (At n) read = refl
+    go Nothing read = missed-none stand number read
+    go (Refused code place) read = refl
+
+-- ---- what holds at the loop's head: k lines were read, n is the next place, the next line is due at a stand, and reading stands at the other without it
+
+pub record Left (g : Bool) (s d₀ : List ℕ) (start : ℕ) (all : Lines) (d : List ℕ) (n : ℕ) (stand other : Stand) (k : ℕ) : Type 0 where
+  pub buffer : stored d₀ start (all .records) ≡ stored d n (leftOf (suc (length s) - k) g s stand other .records)
+  pub count : start + length (all .records) ≡ n + length (leftOf (suc (length s) - k) g s stand other .records)
+  pub then : all .then ≡ leftOf (suc (length s) - k) g s stand other .then
   pub size : length d ≡ length d₀
   pub few : n ≤ start + 2 * k
 
 module _ (g : Bool) (s d₀ : List ℕ) (start : ℕ) where
-  pub first : (from : ℕ) → Left g s d₀ start (restOf (length s) g s from) d₀ start from 0
-  first from =
-      let all-left : length s - 0 ≡ length s = omega arith in
-      record { buffer = rw all-left; count = rw all-left; then = rw all-left; size = refl; few = omega arith }
+  pub first : (stand : Stand) (number : ℕ) → Left g s d₀ start (linesOn g s stand number) d₀ start stand (missed stand number) 0
+  first stand number =
+      let e : suc (length s) - 0 ≡ suc (length s) = omega arith in
+      let all = lines-left g s stand number in
+      record { buffer = rw (e, all); count = rw (e, all); then = rw (e, all); size = refl; few = omega arith }
 
-  module _ (all : Lines) (d : List ℕ) (n at k : ℕ) (l : Left g s d₀ start all d n at k) where
-    module _ (line : Line) (line-is : line ≡ lineOn g s (newlineOn s (At at))) (h : k < length s) where
-      pub turn : (next : ℕ) → line .then ≡ At next → Left g s d₀ start all (stored d n (recordsOf line)) (n + length (recordsOf line)) next (k + 1)
+  module _ (all : Lines) (d : List ℕ) (n : ℕ) (stand other : Stand) (k : ℕ) (l : Left g s d₀ start all d n stand other k) where
+    module _ (line : Line) (line-is : line ≡ lineOn g s stand) (h : k ≤ length s) where
+      line-left : leftOf (suc (length s) - k) g s stand other
+          ≡ from (line .then) (none (orStand (line .then) (line .then) other)) (λ next. after (recordsOf line) (restOf (length s - k) g s next))
+      unfolding leftOf
+      line-left = let one : suc (length s) - k ≡ suc (length s - k) = omega arith in rw (one, ← line-is)
+
+      pub turn : (next : ℕ) → line .then ≡ At next
+          → Left g s d₀ start all (stored d n (recordsOf line)) (n + length (recordsOf line)) (newlineOn s (At next)) (At next) (k + 1)
       turn next e =
-          let here : restOf (length s - k) g s at ≡ after (recordsOf line) (restOf (length s - (k + 1)) g s next) = rw (line-here g s at (length s) k h, ← line-is, e) in
-          let rest = restOf (length s - (k + 1)) g s next .records in
+          let less : suc (length s) - (k + 1) ≡ length s - k = omega arith in
+          let more = leftOf (suc (length s) - (k + 1)) g s (newlineOn s (At next)) (At next) in
+          let here : leftOf (suc (length s) - k) g s stand other ≡ after (recordsOf line) more = rw (line-left, e, less, rest-left (length s - k) g s next) in
           record {
-            buffer = l .buffer ∙ rw here (stored-append d n (recordsOf line) rest);
-            count = omega (arith, rw here at (l .count), length-append (recordsOf line) rest);
+            buffer = l .buffer ∙ rw here (stored-append d n (recordsOf line) (more .records));
+            count = omega (arith, rw here at (l .count), length-append (recordsOf line) (more .records));
             then = rw here at (l .then);
             size = stored-length d n (recordsOf line) ∙ l .size;
             few = omega (arith, few-records line);
           }
 
-      pub halt : OneOf (1 ∷ 2 ∷ []) (tagOf the-type (line .then)) → StoredLines d₀ start all n (stopped at (line .then)) d
+      pub halt : OneOf (1 ∷ 2 ∷ []) (tagOf the-type (line .then)) → StoredLines d₀ start all n (orStand (line .then) (line .then) other) d
       unfolding stored
       halt o =
-          let here : restOf (length s - k) g s at ≡ none (stopped at (line .then))
-          = rw (line-here g s at (length s) k h, ← line-is) (sym (handed (line .then) _ _ o)) in
+          let here : leftOf (suc (length s) - k) g s stand other ≡ none (orStand (line .then) (line .then) other)
+          = rw line-left (sym (handed (line .then) _ _ o)) in
           record {
             records = record { next-is = omega (arith, rw here at (l .count)); buffer = sym (rw here at (l .buffer)) };
             then-is = sym (rw here at (l .then));
           }
 
-    pub over : length s ≤ k → StoredLines d₀ start all n (At at) d
-    unfolding stored restOf
+    pub over : length s < k → StoredLines d₀ start all n other d
+    unfolding stored leftOf
     over h =
-        let none-left : length s - k ≡ 0 = omega arith in
+        let none-left : suc (length s) - k ≡ 0 = omega arith in
         record {
           records = record { next-is = omega (arith, rw none-left at (l .count)); buffer = sym (rw none-left at (l .buffer)) };
           then-is = sym (rw none-left at (l .then));
         }
-
--- ---- a line that is due, and those that follow it
-
-module _ (g : Bool) (s : List ℕ) (stand : Stand) (number : ℕ) (line : Line) (line-is : line ≡ lineOn g s stand)
-    (then : Stand) (then-is : then ≡ due stand (line .then) number) (d : List ℕ) (start : ℕ) where
-  pub refused : OneOf (1 ∷ 2 ∷ []) (tagOf the-type then) → StoredLines d start (linesOn g s stand number) start then d
-  unfolding linesOn stored
-  refused o =
-      let here : linesOn g s stand number ≡ none then = rw (← line-is, ← then-is) (sym (handed then _ _ o)) in
-      rw here (record { records = record { next-is = omega arith; buffer = refl }; then-is = refl })
-
-  pub begun : (next n count : ℕ) (end : Stand) (d₁ d₂ : List ℕ) → then ≡ At next → Stored d start (recordsOf line) n d₁
-      → StoredLines d₁ n (restOf (length s) g s next) count end d₂ → StoredLines d start (linesOn g s stand number) count end d₂
-  unfolding linesOn
-  begun next n count end d₁ d₂ e own rest =
-      let more = restOf (length s) g s next .records in
-      let here : linesOn g s stand number ≡ after (recordsOf line) (restOf (length s) g s next) = rw (← line-is, ← then-is, e) in
-      rw here (record {
-        records = record {
-          next-is = omega (arith, own .next-is, rest .records .next-is, length-append (recordsOf line) more);
-          buffer = rest .records .buffer ∙ rw (own .next-is, own .buffer) (sym (stored-append d start (recordsOf line) more));
-        };
-        then-is = rest .then-is;
-      })
 
 -- ---- how many records lines can have
 

@@ -1,5 +1,5 @@
 -- The forms of a page's lines (document 01, "Instruction" and "Guess"; 000's parsers, in their order and under their names where they have one).
-use mathlib.Core.Bool.{Bool, true, false, cond}
+use mathlib.Core.Bool.{Bool, true, false, cond, not, _&&_}
 use mathlib.Core.List.{List, [], _∷_}
 use Prim.Native.Nat.{ℕ}
 use lib.Dec.{eqb, ltb}
@@ -16,6 +16,7 @@ use Rattle.reader.specs.declared.forms.Line.{Line}
 use Rattle.reader.specs.declared.forms.Side.{Side}
 use Rattle.reader.specs.declared.forms.Pair.{Pair}
 use Rattle.reader.specs.declared.forms.Part.{Part}
+use Rattle.reader.specs.declared.forms.Declared.{Declared}
 
 -- ---- a line that was read
 
@@ -198,3 +199,31 @@ unfoldable pub guessOn : List ℕ → Stand → Line
 guessOn s stand =
     let l = dottedOn s (wsOn s stand) in
     guessedOn s l (wsOn s (wordOn s (wsOn s (l .then)) (bytes "roughly")))
+
+-- ---- how the code chooses among them
+
+-- the declarations
+abbrev pub declarationOn : List ℕ → Stand → Line
+declarationOn s stand = orLine (declareOn s stand 1) (orLine (declareOn s stand 2) (declareOn s stand 3))
+
+-- the line of a declaration
+abbrev pub declared : Declared → Line
+declared d = lineOf (labelled (d .kind) 0 (record { start = d .start; len = d .len; then = d .then }) 0 0) false (d .then)
+
+-- an assignment, then the keyword forms
+abbrev pub assignedOn : List ℕ → Stand → Label → Line
+assignedOn s at l = orLine (assignOn s l) (firstOf s at order)
+
+-- the forms that begin with a label, which was read, then the keyword forms
+abbrev pub behindOn : List ℕ → Stand → Label → Line
+behindOn s at l = orLine (fixedOn s l 4 (bytes ".")) (orLine (fixedOn s l 18 (bytes ".center.")) (assignedOn s at l))
+
+-- a word may begin with a byte
+abbrev pub opens : ℕ → List ℕ → Bool
+opens b [] = true
+opens b (w ∷ ws) = eqb b w
+
+-- none of these kinds' words begins with a byte
+abbrev pub noneBegins : ℕ → List ℕ → Bool
+noneBegins b [] = true
+noneBegins b (k ∷ ks) = not (opens b (wordOf k)) && noneBegins b ks

@@ -83,9 +83,13 @@ unfoldable pub restOf : ℕ → Bool → List ℕ → ℕ → Lines
 restOf zero guesses s at = none (At at)
 restOf (suc most) guesses s at = follow (lineOn guesses s (newlineOn s (At at))) at (restOf most guesses s)
 
+-- something was due at a place, and is refused there by this number
+abbrev pub missed : Stand → ℕ → Stand
+missed before number = from before Nothing (λ place. Refused number place)
+
 -- something was due: where nothing was read, it is refused by this number at the place where it was due
 abbrev pub due : Stand → Stand → ℕ → Stand
-due before read number = orStand read read (from before Nothing (λ place. Refused number place))
+due before read number = orStand read read (missed before number)
 
 -- one line, which is due, and the lines that follow it: fewer than the text has bytes
 unfoldable pub linesOn : Bool → List ℕ → Stand → ℕ → Lines

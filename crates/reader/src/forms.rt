@@ -1,12 +1,12 @@
 // The forms of a page's lines. Each reads where reading stands, and hands on a stand that is no place.
 ghost use mathlib.Core.Path.{_≡_};
-ghost use mathlib.Core.Bool.{false};
+ghost use mathlib.Core.Bool.{true, false};
 ghost use Prim.Native.Nat.{_≤_};
 ghost use lib.ListN.{length, take};
 ghost use Rattle.text.specs.Text.{wordOn};
-ghost use Rattle.text.specs.declared.Stand.the-variants.{Nothing};
+ghost use Rattle.text.specs.declared.Stand.the-variants.{At, Nothing};
 ghost use Rattle.record.specs.Kinds.{wordOf};
-ghost use Rattle.reader.specs.Forms.{noLine, lineOf, labelled, aroundOn, eitherOn, componentOn, pairOn, declareOn, fixedOn, assignOn, moreOn, angleOn, plainPart, partOn, gapOn, keywordOn, order, firstOf, labelFormsOn, instructionOn, guessedOn, guessOn};
+ghost use Rattle.reader.specs.Forms.{noLine, lineOf, labelled, aroundOn, eitherOn, componentOn, pairOn, declareOn, fixedOn, assignOn, moreOn, angleOn, plainPart, partOn, gapOn, keywordOn, order, firstOf, labelFormsOn, instructionOn, guessedOn, guessOn, assignedOn, behindOn, declarationOn, declared, noneBegins};
 use number::Number;
 use record::Record;
 use record::kinds;
@@ -31,6 +31,14 @@ pub struct Side {
 pub struct Pair {
     pub x: u64,
     pub y: u64,
+    pub then: Stand,
+}
+
+// A declaration: its kind, its label, and where reading stands behind it.
+pub struct Declared {
+    pub kind: u8,
+    pub start: usize,
+    pub len: usize,
     pub then: Stand,
 }
 
@@ -195,21 +203,6 @@ fn keyword(text: &[u8], stand: Stand, k: Kind) -> Stand
     text::word(text, stand, &word[..len])
 }
 
-// A declaration: a word and a label; the space between them may be missing.
-fn declare(text: &[u8], stand: Stand, kind: u8) -> Line
-    requires { ⌜ 2 ≤ length (wordOf kind) ⌝ }
-    ensures { λ r. ⌜ r ≡ declareOn (now (text .entry)) stand kind ⌝ }
-{
-    if !may_stand(text, stand, kind) {
-        return no_line(Stand::Nothing);
-    }
-    let s = keyword(text, stand, kinds::kind_of(kind));
-    let s = text::ws(text, s);
-    let l = text::parse_label(text, s);
-    let then = l.then;
-    line_of(one_label(kind, 0, l, 0, 0), false, then)
-}
-
 // What follows the label of a fixed component: a word, x or y, `=` and a number.
 fn fix_component(text: &[u8], l: Label, kind: u8, between: &[u8]) -> Line
     ensures { λ r. ⌜ r ≡ fixedOn (now (text .entry)) l kind (now (between .entry)) ⌝ }
@@ -359,13 +352,33 @@ fn try_keyword(text: &[u8], stand: Stand, kind: u8) -> Line
     no_line(Stand::Nothing)
 }
 
-// The first keyword form that reads.
-fn keyword_forms(text: &[u8], stand: Stand) -> Line
-    ensures { λ r. ⌜ r ≡ firstOf (now (text .entry)) stand order ⌝ }
+// A place of the order before which no keyword begins with this byte.
+fn start_of(b: u8) -> usize
+    ensures { λ r. ⌜ noneBegins b (take r order) ≡ true ⌝ }
 {
-    let mut i = 0;
+    match b {
+        b'c' => 1,
+        b'p' => 2,
+        b'm' => 3,
+        b's' => 4,
+        b'v' => 5,
+        b'd' => 6,
+        b'l' => 9,
+        b'r' => 10,
+        b't' => 11,
+        b'a' => 12,
+        b'i' => 14,
+        _ => 0,
+    }
+}
+
+// The first keyword form that reads at a place.
+fn keyword_forms(text: &[u8], at: usize) -> Line
+    ensures { λ r. ⌜ r ≡ firstOf (now (text .entry)) (At at) order ⌝ }
+{
+    let mut i = start_of(text::byte_at(text, at));
     while i < 18 {
-        let line = try_keyword(text, stand, ORDER[i]);
+        let line = try_keyword(text, Stand::At(at), ORDER[i]);
         let then = line.then;
         let Stand::Nothing = then else {
             return line;
@@ -375,11 +388,22 @@ fn keyword_forms(text: &[u8], stand: Stand) -> Line
     no_line(Stand::Nothing)
 }
 
-// The forms that begin with a label, and then those that begin with a keyword.
-fn label_forms(text: &[u8], stand: Stand) -> Line
-    ensures { λ r. ⌜ r ≡ labelFormsOn (now (text .entry)) stand ⌝ }
+// An assignment, and then the forms that begin with a keyword.
+fn assign_forms(text: &[u8], at: usize, l: Label) -> Line
+    ensures { λ r. ⌜ r ≡ assignedOn (now (text .entry)) (At at) l ⌝ }
 {
-    let l = text::parse_label(text, stand);
+    let line = assign_point(text, l);
+    let then = line.then;
+    let Stand::Nothing = then else {
+        return line;
+    };
+    keyword_forms(text, at)
+}
+
+// The forms that begin with a label, and then those that begin with a keyword.
+fn dotted_forms(text: &[u8], at: usize, l: Label) -> Line
+    ensures { λ r. ⌜ r ≡ behindOn (now (text .entry)) (At at) l ⌝ }
+{
     let line = fix_component(text, l, 4, b".");
     let then = line.then;
     let Stand::Nothing = then else {
@@ -390,12 +414,76 @@ fn label_forms(text: &[u8], stand: Stand) -> Line
     let Stand::Nothing = then else {
         return line;
     };
-    let line = assign_point(text, l);
-    let then = line.then;
-    let Stand::Nothing = then else {
-        return line;
+    assign_forms(text, at, l)
+}
+
+// The same by the byte behind the label: a point, or a bracket or a low line, which tells a keyword.
+fn label_forms(text: &[u8], at: usize) -> Line
+    ensures { λ r. ⌜ r ≡ labelFormsOn (now (text .entry)) (At at) ⌝ }
+{
+    let l = text::parse_label(text, Stand::At(at));
+    let then = l.then;
+    let Stand::At(next) = then else {
+        return dotted_forms(text, at, l);
     };
-    keyword_forms(text, stand)
+    let b = text::byte_at(text, next);
+    if b == b'.' {
+        return dotted_forms(text, at, l);
+    }
+    if b == b'(' {
+        return keyword_forms(text, at);
+    }
+    if b == b'_' {
+        return keyword_forms(text, at);
+    }
+    assign_forms(text, at, l)
+}
+
+// The word of a declaration and its label; the space between them may be missing.
+fn declare(text: &[u8], at: usize, kind: u8) -> Declared
+    requires { ⌜ 2 ≤ length (wordOf kind) ⌝ }
+    ensures { λ r. ⌜ declared r ≡ declareOn (now (text .entry)) (At at) kind ⌝ }
+{
+    if !may_stand(text, Stand::At(at), kind) {
+        return Declared {
+            kind,
+            start: 0,
+            len: 0,
+            then: Stand::Nothing,
+        };
+    }
+    let s = keyword(text, Stand::At(at), kinds::kind_of(kind));
+    let s = text::ws(text, s);
+    let l = text::parse_label(text, s);
+    let then = l.then;
+    Declared {
+        kind,
+        start: l.start,
+        len: l.len,
+        then,
+    }
+}
+
+// A declaration, by its word's first byte.
+fn declaration(text: &[u8], at: usize) -> Declared
+    ensures { λ r. ⌜ declared r ≡ declarationOn (now (text .entry)) (At at) ⌝ }
+{
+    let b = text::byte_at(text, at);
+    if b == b'p' {
+        return declare(text, at, 1);
+    }
+    if b == b'c' {
+        return declare(text, at, 2);
+    }
+    if b == b'a' {
+        return declare(text, at, 3);
+    }
+    Declared {
+        kind: 0,
+        start: 0,
+        len: 0,
+        then: Stand::Nothing,
+    }
 }
 
 // An instruction: spaces, then the first form that reads.
@@ -403,22 +491,20 @@ pub(crate) fn parse_instruction(text: &[u8], stand: Stand) -> Line
     ensures { λ r. ⌜ r ≡ instructionOn (now (text .entry)) stand ⌝ }
 {
     let s = text::ws(text, stand);
-    let line = declare(text, s, 1);
-    let then = line.then;
-    let Stand::Nothing = then else {
-        return line;
+    let Stand::At(at) = s else {
+        return no_line(s);
     };
-    let line = declare(text, s, 2);
-    let then = line.then;
+    let d = declaration(text, at);
+    let then = d.then;
     let Stand::Nothing = then else {
-        return line;
+        let l = Label {
+            start: d.start,
+            len: d.len,
+            then,
+        };
+        return line_of(one_label(d.kind, 0, l, 0, 0), false, then);
     };
-    let line = declare(text, s, 3);
-    let then = line.then;
-    let Stand::Nothing = then else {
-        return line;
-    };
-    label_forms(text, s)
+    label_forms(text, at)
 }
 
 // What follows the label of a guess: a point pair, else a number.

@@ -2,7 +2,8 @@
 ghost use mathlib.Core.Path.{_≡_};
 ghost use Prim.Native.Nat.{_+_, _*_, _≤_, _<_};
 ghost use lib.ListN.{length};
-ghost use Rattle.reader.specs.Page.{component, recordsOf, lineOn, stopped, due, headingOn, optNewlineOn, highAt, longestText, restOf, linesOn, Stored, StoredLines, Paged, Ended, Reads, toldOf, store};
+ghost use Rattle.reader.specs.Forms.{orStand};
+ghost use Rattle.reader.specs.Page.{component, recordsOf, lineOn, missed, due, headingOn, optNewlineOn, highAt, longestText, linesOn, Stored, StoredLines, Paged, Ended, Reads, toldOf, store};
 use crate::Reading;
 use crate::forms;
 use crate::forms::Line;
@@ -85,58 +86,34 @@ fn line_at(text: &[u8], stand: Stand, guesses: bool) -> Line
     forms::parse_instruction(text, stand)
 }
 
-// Where reading stands when no line follows the one that ends at a place.
-fn stop(at: usize, then: Stand) -> Stand
-    ensures { λ r. ⌜ r ≡ stopped at then ⌝ }
-{
-    let Stand::Nothing = then else {
-        return then;
-    };
-    Stand::At(at)
-}
-
-// The lines that follow one that ends at a place, each behind one new line.
-fn rest(text: &[u8], from: usize, guesses: bool, own: &mut [u8], start: usize) -> Count
-    requires { ⌜ (length (now text) ≤ longestText) × (start ≤ 500000) ⌝ }
-    ensures { λ r. ⌜ StoredLines (now (own .entry)) start (restOf (length (now (text .entry))) guesses (now (text .entry)) from) (r .count) (r .then) (now (own .exit)) ⌝ }
-{
-    let mut at = from;
-    let mut n = start;
-    let mut k = 0;
-    while k < text.len() {
-        let s = text::newline(text, Stand::At(at));
-        let line = line_at(text, s, guesses);
-        let then = line.then;
-        let Stand::At(next) = then else {
-            return Count {
-                count: n,
-                then: stop(at, then),
-            };
-        };
-        n = put_line(own, n, line);
-        at = next;
-        k += 1;
-    }
-    Count {
-        count: n,
-        then: Stand::At(at),
-    }
-}
-
-// What was due and was not read is refused, by a number, at the place where it was due.
-fn refuse(stand: Stand, read: Stand, number: u8) -> Stand
-    ensures { λ r. ⌜ r ≡ due stand read number ⌝ }
+// What was read, or else another stand.
+fn or_stand(read: Stand, other: Stand) -> Stand
+    ensures { λ r. ⌜ r ≡ orStand read read other ⌝ }
 {
     let Stand::Nothing = read else {
         return read;
     };
+    other
+}
+
+// What is due at a place is refused there by a number.
+fn missing(stand: Stand, number: u8) -> Stand
+    ensures { λ r. ⌜ r ≡ missed stand number ⌝ }
+{
     let Stand::At(place) = stand else {
         return Stand::Nothing;
     };
     Stand::Refused { number, place }
 }
 
-// A line, which is due, and those that follow it.
+// What was due and was not read is refused, by a number, at the place where it was due.
+fn refuse(stand: Stand, read: Stand, number: u8) -> Stand
+    ensures { λ r. ⌜ r ≡ due stand read number ⌝ }
+{
+    or_stand(read, missing(stand, number))
+}
+
+// A line, which is due, and those that follow it, each behind one new line. Where none reads, reading stands at the last line's end.
 fn lines(
     text: &[u8],
     stand: Stand,
@@ -148,14 +125,28 @@ fn lines(
     requires { ⌜ (length (now text) ≤ longestText) × (start ≤ 400000) ⌝ }
     ensures { λ r. ⌜ StoredLines (now (own .entry)) start (linesOn guesses (now (text .entry)) stand number) (r .count) (r .then) (now (own .exit)) ⌝ }
 {
-    let line = line_at(text, stand, guesses);
-    let read = line.then;
-    let then = refuse(stand, read, number);
-    let Stand::At(next) = then else {
-        return Count { count: start, then };
-    };
-    let n = put_line(own, start, line);
-    rest(text, next, guesses, own, n)
+    let mut next = stand;
+    let mut other = missing(stand, number);
+    let mut n = start;
+    let mut k = 0;
+    while k <= text.len() {
+        let line = line_at(text, next, guesses);
+        let then = line.then;
+        let Stand::At(_) = then else {
+            return Count {
+                count: n,
+                then: or_stand(then, other),
+            };
+        };
+        n = put_line(own, n, line);
+        next = text::newline(text, then);
+        other = then;
+        k += 1;
+    }
+    Count {
+        count: n,
+        then: other,
+    }
 }
 
 // `#`, spaces, a word, a new line.
@@ -206,10 +197,33 @@ fn read_page(text: &[u8], own: &mut [u8]) -> Page
     }
 }
 
+// The larger of two bytes.
+fn larger(a: u8, b: u8) -> u8
+    ensures { λ r. ⌜ (a ≤ r) × (b ≤ r) ⌝ }
+{
+    if a < b { b } else { a }
+}
+
+// The largest byte: where it is under 128, none is 128 or more.
+fn largest(text: &[u8]) -> u8
+    ensures { λ r. ⌜ (r < 128 → highAt (now (text .entry)) ≡ length (now (text .entry))) ⌝ }
+{
+    let mut m = 0;
+    let mut i = 0;
+    while i < text.len() {
+        m = larger(m, text[i]);
+        i += 1;
+    }
+    m
+}
+
 // The place of the first byte of 128 or more, or the text's end.
 fn high_at(text: &[u8]) -> usize
     ensures { λ r. ⌜ r ≡ highAt (now (text .entry)) ⌝ }
 {
+    if largest(text) < 128 {
+        return text.len();
+    }
     let mut i = 0;
     while i < text.len() {
         if text[i] < 128 {

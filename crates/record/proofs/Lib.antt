@@ -7,6 +7,7 @@ pub mod Passed
 pub mod Asked
 pub mod Told
 pub mod WellFormed
+pub mod Rows
 pub mod Written
 pub mod Only
 pub mod Examples

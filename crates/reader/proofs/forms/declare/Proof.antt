@@ -1,7 +1,8 @@
 -- `reader::forms::declare` meets its contract: it is its definition, call by call; where the word cannot stand it reads nothing. Assumes nothing.
 use borrow.Author.Needs.{needs}
 use borrow.Author.Tests.{not-true}
-use mathlib.Core.Path.{sym, _∙_}
+use mathlib.Core.Path.{refl, sym, _∙_}
+use Rattle.text.specs.declared.Stand.the-variants.{At}
 use Rattle.reader.specs.Forms.{declareOn}
 use Rattle.reader.proofs.Table.{word-fits}
 use Rattle.reader.proofs.Words.{no-declaration}
@@ -10,8 +11,8 @@ use Rattle.reader.proofs.forms.declare.Tie as tie
 
 returns : tie.Need-returns
 returns c =
-    let a = c .before .before .before .before .args in
-    c .no-line .ensures ∙ sym (no-declaration (a .text .now) (a .stand) (a .kind) (c .before .before .may-stand .ensures (not-true _ (c .before .if1 .taken))))
+    let a = c .before .before .before .args in
+    sym (no-declaration (a .text .now) (At (a .at)) (a .kind) (c .before .may-stand .ensures (not-true _ (c .if1 .taken))))
 
 keyword-requires : tie.Need-keyword-requires
 keyword-requires c κs = rw (c .kind-of .ensures) (word-fits (c .before .before .before .before .args .kind))
@@ -20,13 +21,11 @@ returns-2 : tie.Need-returns-2
 unfolding declareOn
 returns-2 c =
     rw (
-      ← c .before .before .before .before .before .kind-of .ensures,
-      ← c .before .before .before .before .keyword .ensures,
-      ← c .before .before .before .ws .ensures,
-      ← c .before .before .parse-label .ensures,
-      ← c .before .one-label .ensures,
+      ← c .before .before .before .kind-of .ensures,
+      ← c .before .before .keyword .ensures,
+      ← c .before .ws .ensures,
+      ← c .parse-label .ensures,
     )
-    (c .line-of .ensures)
 
 pub declare-spec : {M : Type 1} → statement M
-declare-spec = tie.close (tie.spec (λ c κs. search needs) (λ c κs. search needs) returns (λ c κs. search needs) keyword-requires (λ c κs. search needs) (λ c κs. search needs) (λ c κs. search needs) (λ c κs. search needs) returns-2)
+declare-spec = tie.close (tie.spec (λ c κs. search needs) returns (λ c κs. search needs) keyword-requires (λ c κs. search needs) (λ c κs. search needs) returns-2)
