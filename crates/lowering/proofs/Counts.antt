@@ -1,0 +1,152 @@
+-- The counts of a drawing are the lengths of the lists that its records are picked into: each record adds to both alike. Assumes nothing.
+use mathlib.Core.Path.{_≡_, refl, sym, ap, _∙_}
+use mathlib.Core.Bool.{Bool, true, false, cond}
+use mathlib.Core.List.{List, [], _∷_, _++_, append-nil}
+use Prim.Native.Nat.{ℕ, zero, suc, _+_, _*_, _≤_, _<_}
+use native.Mathlib.Nat.{le-refl}
+use native.Mathlib.Omega.{arith}
+use lib.Dec.{eqb}
+use lib.ListN.{length, take, drop, length-append}
+use lib.Seq.{take-length}
+use Rattle.refusal.proofs.Says.{Says, says-and, says-eq, says-le, says-iff, says-once}
+use Rattle.layout.specs.Slots as layout
+use Rattle.layout.proofs.Laws.{can-be}
+use Rattle.layout.specs.Refusals.{impossible}
+use Rattle.record.specs.Entry.{Label, Entry, noEntry, entryAt, labelNo}
+use Rattle.index.specs.Labels.{kindNo, nameNo, within}
+use Rattle.drawing.specs.Needs.{Shape, point, circle, arc, declaring}
+use Rattle.drawing.specs.Check.{countBelow}
+use Rattle.lowering.specs.Slots.{Slot, flat, slotsOfShape, labelsOf, slotsOf, slots, size, before, howMany, layoutOf}
+use Rattle.lowering.specs.Rows.{rulesOf}
+use Rattle.lowering.specs.Demand.{Declares, rulesBefore}
+use Rattle.lowering.proofs.Lists.{each-of, length-flat, flat-append, Picks, picks-suc, picks-around}
+
+-- ---- what is picked
+
+pub says-within : (low high k : ℕ) → Says (within low high k) ((low ≤ k) × (k ≤ high))
+says-within low high k = says-and (says-le low k) (says-le k high)
+
+-- a kind from d to d is d
+pub within-one : (d k : ℕ) → within d d k ≡ eqb k d
+within-one d k = says-once (says-iff (λ w. omega (arith, w .0, w .1)) (λ e. (omega (arith, e), omega (arith, e))) (says-within d d k)) (says-eq k d)
+
+pub labels-pick : (s : Shape) → Picks (λ (e : Entry). within (declaring s) (declaring s) (e .kind)) (λ e. labelNo e 0) (labelsOf s)
+labels-pick s = record {
+  none = refl;
+  next = λ e es. ap (λ (b : Bool). cond b (labelNo e 0 ∷ labelsOf s es) (labelsOf s es)) (sym (within-one (declaring s) (e .kind)));
+}
+
+pub rules-pick : Picks (λ (e : Entry). within 4 23 (e .kind)) (λ e. e) rulesOf
+rules-pick = record { none = refl; next = λ e es. refl }
+
+-- ---- how many are picked out of the first n
+
+module _ {B : Type 0} (low high : ℕ) (f : Entry → B) (g : List Entry → List B) (picks : Picks (λ (e : Entry). within low high (e .kind)) f g) (es : List Entry) where
+  pub picks-count : (n : ℕ) → n ≤ length es → length (g (take n es)) ≡ countBelow (kindNo es) low high n
+  unfolding countBelow
+  picks-count zero h = ap length (picks .none)
+  picks-count (suc n) h =
+      ap length (picks-suc _ f g picks es n noEntry h)
+      ∙ length-append (g (take n es)) (cond (within low high (kindNo es n)) (f (entryAt es n) ∷ []) [])
+      ∙ rw (picks-count n (omega (arith, h))) (go (within low high (kindNo es n)))
+    where
+      go : (b : Bool) → countBelow (kindNo es) low high n + length (cond b (f (entryAt es n) ∷ []) []) ≡ countBelow (kindNo es) low high n + cond b 1 0
+      go true = refl
+      go false = refl
+
+  pub picks-all : length (g es) ≡ countBelow (kindNo es) low high (length es)
+  picks-all = ap (λ (l : List Entry). length (g l)) (sym (take-length es)) ∙ picks-count (length es) (le-refl (length es))
+
+  -- one that is picked has its count inside
+  pub picks-inside : (i : ℕ) → i < length es → within low high (kindNo es i) ≡ true → countBelow (kindNo es) low high i < length (g es)
+  picks-inside i h e =
+      omega (
+        arith,
+        picks-count i (omega (arith, h)),
+        ap length (picks-around _ f g picks es i noEntry h e),
+        length-append (g (take i es)) (f (entryAt es i) ∷ g (drop (suc i) es)),
+      )
+
+pub count-le : (kinds : ℕ → ℕ) (low high n : ℕ) → countBelow kinds low high n ≤ n
+unfolding countBelow
+count-le kinds low high zero = omega arith
+count-le kinds low high (suc n) = omega (arith, count-le kinds low high n, small (within low high (kinds n)))
+  where
+    small : (b : Bool) → cond b 1 0 ≤ 1
+    small true = omega arith
+    small false = omega arith
+
+-- ---- shapes and rules
+
+module _ (es : List Entry) where
+  -- of the first n records
+  pub labels-before : (s : Shape) (n : ℕ) → n ≤ length es → length (labelsOf s (take n es)) ≡ before s es n
+  labels-before s n h = picks-count _ _ _ _ (labels-pick s) es n h
+
+  pub labels-all : (s : Shape) → length (labelsOf s es) ≡ howMany s es
+  labels-all s = picks-all _ _ _ _ (labels-pick s) es
+
+  pub rules-before : (n : ℕ) → n ≤ length es → length (rulesOf (take n es)) ≡ rulesBefore es n
+  rules-before n h = picks-count _ _ _ _ rules-pick es n h
+
+  pub rules-all : length (rulesOf es) ≡ rulesBefore es (length es)
+  rules-all = picks-all _ _ _ _ rules-pick es
+
+  -- a declared shape's number is below the count of its kind
+  pub before-inside : (i : ℕ) (s : Shape) → Declares es i s → before s es i < howMany s es
+  before-inside i s d =
+      let e : within (declaring s) (declaring s) (kindNo es i) ≡ true = within-one (declaring s) (kindNo es i) ∙ says-eq (kindNo es i) (declaring s) .back (d .kind-is) in
+      omega (arith, picks-inside _ _ _ _ (labels-pick s) es i (d .inside) e, labels-all s)
+
+-- ---- slots
+
+pub length-shape : (s : Shape) (l : Label) → length (slotsOfShape s l) ≡ size s
+length-shape point l = refl
+length-shape circle l = refl
+length-shape arc l = refl
+
+pub length-of : (s : Shape) (es : List Entry) → length (slotsOf s es) ≡ length (labelsOf s es) * size s
+length-of s es = length-flat (slotsOfShape s) (size s) (labelsOf s es) (each-of (λ l. length (slotsOfShape s l) ≡ size s) (labelsOf s es) [] (λ j h. length-shape s _))
+
+-- the slots of a kind, one record more
+pub slots-more : (s : Shape) (es : List Entry) (i : ℕ) → i < length es
+    → slotsOf s (take (suc i) es) ≡ slotsOf s (take i es) ++ cond (within (declaring s) (declaring s) (kindNo es i)) (slotsOfShape s (nameNo es i)) []
+slots-more s es i h =
+    ap (flat (slotsOfShape s)) (picks-suc _ _ _ (labels-pick s) es i noEntry h)
+    ∙ flat-append (slotsOfShape s) (labelsOf s (take i es)) (cond (within (declaring s) (declaring s) (kindNo es i)) (nameNo es i ∷ []) [])
+    ∙ ap (λ (l : List Slot). slotsOf s (take i es) ++ l) (go (within (declaring s) (declaring s) (kindNo es i)))
+  where
+    go : (b : Bool) → flat (slotsOfShape s) (cond b (nameNo es i ∷ []) []) ≡ cond b (slotsOfShape s (nameNo es i)) []
+    go true = append-nil (slotsOfShape s (nameNo es i))
+    go false = refl
+
+module _ (es : List Entry) where
+  pub length-slots : length (slots es) ≡ layout.slotsOf (layoutOf es)
+  unfolding slots
+  length-slots =
+      length-append (slotsOf point es) (slotsOf circle es ++ slotsOf arc es)
+      ∙ omega (
+        arith,
+        length-append (slotsOf circle es) (slotsOf arc es),
+        length-of point es,
+        length-of circle es,
+        length-of arc es,
+        labels-all es point,
+        labels-all es circle,
+        labels-all es arc,
+      )
+
+  -- 2P + 3C + 6A
+  pub slot-count : length (slots es) ≡ 2 * howMany point es + 3 * howMany circle es + 6 * howMany arc es
+  slot-count = omega (arith, length-slots)
+
+  -- the layout is a possible one
+  pub possible : length es ≤ layout.mostShapes → impossible (layoutOf es) ≡ false
+  possible h =
+      let few : (s : Shape) → howMany s es ≤ layout.mostShapes = λ s. omega (arith, h, count-le (kindNo es) (declaring s) (declaring s) (length es)) in
+      can-be (layoutOf es)
+      (record {
+        counts = record { points = few point; circles = few circle; arcs = few arc };
+        circles-late = λ h. omega arith;
+        arcs-late = λ h. omega arith;
+      })

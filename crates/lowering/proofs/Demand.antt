@@ -1,0 +1,134 @@
+-- A drawing that the check passes can't go wrong later: the third demand. What the check tells of it makes lowering answer without refusal, and what
+-- is written then is what the laws of slots, values and rows say. Assumes nothing.
+use mathlib.Core.Path.{_≡_, refl, sym, ap, _∙_}
+use mathlib.Core.Bool.{Bool, true, false, cond, _&&_}
+use mathlib.Core.List.{List, [], _∷_, _++_}
+use Prim.Native.Nat.{ℕ, _+_, _*_, _%_, _≤_, _<_}
+use native.Mathlib.Omega.{arith}
+use lib.Dec.{leb, eqb}
+use lib.ListN.{length, getD, drop, length-append, List·getD-append}
+use lib.Ieee.{Float, nan}
+use borrow.Author.Tests.{leb-true}
+use Rattle.ground.proofs.Lists.{and-second}
+use Rattle.refusal.specs.First.{EachBelow}
+use Rattle.layout.specs.declared.Layout.{Layout}
+use Rattle.layout.specs.Slots as layout
+use Rattle.layout.specs.Refusals.{idsEnd}
+use Rattle.layout.specs.Push.{onward}
+use Rattle.layout.proofs.Onward.{length-onward, getD-onward}
+use Rattle.layout.proofs.Claims.{one-slot-one-part}
+use Rattle.record.specs.Record.{recordBytes}
+use Rattle.record.specs.Decode.{countOf, recordOf}
+use Rattle.record.specs.Entry.{Entry, noEntry, upTo}
+use Rattle.record.specs.Sound.{longest}
+use Rattle.record.specs.Formed.{most, entry, entries}
+use Rattle.record.proofs.UpTo.{length-up-to}
+use Rattle.drawing.specs.Needs.{Shape, point, circle, arc}
+use Rattle.lowering.specs.declared.Lowered.{Lowered}
+use Rattle.lowering.specs.declared.Lowered.the-variants as L
+use Rattle.lowering.specs.Slots.{slots, before, howMany, kindFor, layoutOf, valuesOf}
+use Rattle.lowering.specs.Rows.{rulesOf, rowsOf, encodeRows}
+use Rattle.lowering.specs.Lower.{lowerOf, unless, onto, roomIn, Lowers}
+use Rattle.lowering.specs.Demand.{Declares, rulesBefore, CannotGoWrong, PassedLowersWell}
+use Rattle.lowering.proofs.Lacking.{lower-good}
+use Rattle.lowering.proofs.Counts.{rules-all, before-inside, length-slots, slot-count, possible}
+use Rattle.lowering.proofs.Fine.{Fine, fine, passed-with}
+use Rattle.lowering.proofs.Places.{one-component, slot-of}
+use Rattle.lowering.proofs.Values.{starts, length-values, value-at}
+use Rattle.lowering.proofs.Bytes.{rule-inside, row-of}
+
+-- ---- the list of a drawing is short enough for a layout
+
+pub entries-few : (text bs : List ℕ) → length (entries text bs) ≤ layout.mostShapes
+unfolding entries
+entries-few text bs = go (leb (length text) longest && leb (countOf bs) most) refl
+  where
+    piece : (b : Bool) → length (cond b [] (noEntry ∷ [])) ≤ 1
+    piece true = omega arith
+    piece false = omega arith
+
+    go : (b : Bool) → (leb (length text) longest && leb (countOf bs) most) ≡ b
+        → length (cond b (upTo (countOf bs) (λ i. entry text (recordOf bs i)) ++ cond (eqb (length bs % recordBytes) 0) [] (noEntry ∷ [])) (noEntry ∷ [])) ≤ layout.mostShapes
+    go true e =
+        let front = upTo (countOf bs) (λ i. entry text (recordOf bs i)) in
+        let rest = cond (eqb (length bs % recordBytes) 0) [] (noEntry ∷ []) in
+        omega (
+          arith,
+          leb-true (countOf bs) most (and-second (leb (length text) longest) (leb (countOf bs) most) e),
+          length-append front rest,
+          length-up-to (countOf bs) (λ i. entry text (recordOf bs i)),
+          piece (eqb (length bs % recordBytes) 0),
+        )
+    go false e = omega arith
+
+-- ---- what is written
+
+module _ (es : List Entry) (w : Fine es) (few : length es ≤ layout.mostShapes) (next : ℕ) (left : next + length (slots es) ≤ idsEnd) (ids : List ℕ) (values : List Float) (rows : List ℕ) where
+  written-id : EachBelow (length (slots es)) (λ j. getD (onto ids (onward next (length (slots es)))) j 0 ≡ next + j)
+  written-id j h =
+      let n = length (slots es) in
+      List·getD-append (onward next n) (drop (length (onward next n)) ids) 0 j (omega (arith, h, length-onward next n)) ∙ getD-onward next n j h
+
+  written-value : EachBelow (length (slots es)) (λ j. getD (onto values (valuesOf es)) j nan ≡ getD (valuesOf es) j nan)
+  written-value j h = List·getD-append (valuesOf es) (drop (length (valuesOf es)) values) nan j (omega (arith, h, length-values es))
+
+  pub cannot-go-wrong : CannotGoWrong es (howMany point es) (howMany circle es) (howMany arc es) (rulesBefore es (length es)) next
+      (onto ids (onward next (length (slots es)))) (onto values (valuesOf es)) (onto rows (encodeRows (rowsOf es next)))
+  cannot-go-wrong = record {
+    points = refl;
+    circles = refl;
+    arcs = refl;
+    slot-count = slot-count es;
+    id-at = written-id;
+    distinct = λ j k h g e. omega (arith, e, written-id j h, written-id k g);
+    fit = λ j h. omega (arith, h, left, written-id j h);
+    one-component = one-component es w;
+    each-has-one = slot-of es w;
+    starts = λ j h. rw (written-value j h, value-at es j h) (starts es w j h);
+    row-count = refl;
+    one-row = λ i h u. (omega (arith, rule-inside es i h u, rules-all es), row-of es w next i h u left (drop (length (encodeRows (rowsOf es next))) rows));
+    read-out = λ i s k d h vs long v.
+        one-slot-one-part (layoutOf es) vs (possible es few) (omega (arith, long, length-slots es)) (record { kind = kindFor s; shape = before s es i; place = k }) v (counted i s d, h);
+  }
+    where
+      counted : (i : ℕ) (s : Shape) → Declares es i s → before s es i < layout.countOf (kindFor s) (layoutOf es)
+      counted i point d = before-inside es i point d
+      counted i circle d = before-inside es i circle d
+      counted i arc d = before-inside es i arc d
+
+-- ---- the demand
+
+-- what is lent, after a call that is answered with a layout
+module _ (es : List Entry) (next : ℕ) (ids : List ℕ) (values : List Float) (rows : List ℕ) (r : Lowered) (ids′ : List ℕ) (values′ : List Float) (rows′ : List ℕ)
+    (call : Lowers es next ids values rows r ids′ values′ rows′) (l : Layout) (n m : ℕ) (good : lowerOf es (roomIn next ids values rows) ≡ L.Good l n m) where
+  ids-after : ids′ ≡ onto ids (onward next (length (slots es)))
+  ids-after = call .ids-are ∙ ap (λ (z : Lowered). unless z ids (onto ids (onward next (length (slots es))))) good
+
+  values-after : values′ ≡ onto values (valuesOf es)
+  values-after = call .values-are ∙ ap (λ (z : Lowered). unless z values (onto values (valuesOf es))) good
+
+  rows-after : rows′ ≡ onto rows (encodeRows (rowsOf es next))
+  rows-after = call .rows-are ∙ ap (λ (z : Lowered). unless z rows (onto rows (encodeRows (rowsOf es next)))) good
+
+pub lowers-well : PassedLowersWell
+lowers-well text bs P C A R next ids values rows checked enough r ids′ values′ rows′ call =
+    let es = entries text bs in
+    let p = passed-with es P C A R checked in
+    let n : length (slots es) ≡ 2 * P + 3 * C + 6 * A = rw (p .points, p .circles, p .arcs) (slot-count es) in
+    let m : length (rulesOf es) ≡ R = rules-all es ∙ sym (p .rules) in
+    let good = lower-good es (roomIn next ids values rows) (rw (n, m) enough) (p .none-found) in
+    let left : next + length (slots es) ≤ idsEnd = rw n (enough .ids-left) in
+    record {
+      without-refusal = call .answer ∙ good ∙ rw (n, m, p .points, p .circles, p .arcs) refl;
+      cannot-go-wrong =
+          rw (
+            ids-after es next ids values rows r ids′ values′ rows′ call _ _ _ good,
+            values-after es next ids values rows r ids′ values′ rows′ call _ _ _ good,
+            rows-after es next ids values rows r ids′ values′ rows′ call _ _ _ good,
+            p .points,
+            p .circles,
+            p .arcs,
+            p .rules,
+          )
+          (cannot-go-wrong es (fine es (p .none-found)) (entries-few text bs) next left ids values rows);
+    }

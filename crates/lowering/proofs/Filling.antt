@@ -1,0 +1,268 @@
+-- A row's ids are put down label by label, and the rows rule by rule: each piece stands behind those before it. Assumes nothing.
+use mathlib.Core.Path.{_≡_, refl, sym, _∙_, ap, subst}
+use mathlib.Core.Logic.{_⊎_, inl, inr, ⊎-elim}
+use mathlib.Core.Bool.{Bool, true, false, _||_}
+use mathlib.Core.List.{List, [], _∷_, _++_, append-assoc}
+use Prim.Native.Nat.{ℕ, zero, suc, _+_, _-_, _≤_, _<_}
+use native.Mathlib.Omega.{arith}
+use native.Mathlib.Nat.{le-refl}
+use native.Mathlib.Numerals.{add-one}
+use lib.Dec.{ltb}
+use lib.ListN.{length, getD, take, drop, replicate, length-append, length-drop, take-append-drop}
+use lib.Seq.{take-length}
+use borrow.Author.Tests.{le-leb, ltb-false, ltb-true}
+use Rattle.store.specs.Store.{written, Put}
+use Rattle.store.proofs.Laws.{written-append, written-none}
+use Rattle.refusal.proofs.Says.{refuted}
+use Rattle.layout.specs.declared.Layout.{Layout}
+use Rattle.layout.specs.Push.{over}
+use Rattle.layout.proofs.Onward.{over-front}
+use Rattle.record.specs.declared.Record.{Record}
+use Rattle.record.specs.Decode.{decodeAt}
+use Rattle.record.specs.Entry.{Label, Entry, entryAt, labelNo, entryOf, named, upTo}
+use Rattle.record.proofs.UpTo.{length-up-to}
+use Rattle.index.specs.Labels.{drawn, kindNo, within}
+use Rattle.index.proofs.Drawn.{drawn-at}
+use Rattle.drawing.specs.Faults.{Rule}
+use Rattle.lowering.specs.declared.spans.Span.{Span}
+use Rattle.lowering.specs.Slots.{flat}
+use Rattle.lowering.specs.Rows.{mostIds, rowBytes, encodeRow}
+use Rattle.lowering.specs.Lower.{onto}
+use Rattle.lowering.specs.Steps.{spanOf, sixOf, numberNo, spanIds, labelIds, rowIds, rowBytesOf, rowAt, rowIf, rowsBelow, Tables, Addable, Added, Sayable, Begins, Writing, Wrote, Writable}
+use Rattle.lowering.proofs.Lists.{flat-suc, flat-append}
+use Rattle.lowering.proofs.Counts.{says-within}
+use Rattle.lowering.proofs.Bytes.{length-row}
+use Rattle.lowering.proofs.Spanning.{span-inside, label-length}
+
+-- ---- an entry by its record
+
+module _ (text records : List ℕ) (i : ℕ) (r : Record) (e : r ≡ decodeAt records i) where
+  pub entry-is : entryAt (drawn text records) i ≡ entryOf text r
+  entry-is = drawn-at text records i ∙ ap (entryOf text) (sym e)
+
+  pub labels-count : length (entryAt (drawn text records) i .labels) ≡ r .count
+  unfolding entryOf
+  labels-count = ap (λ (t : Entry). length (t .labels)) entry-is ∙ length-up-to (r .count) (named text r)
+
+  pub label-inside : (q : ℕ) → q < r .count → q < length (entryAt (drawn text records) i .labels)
+  label-inside q h = omega (arith, labels-count, h)
+
+  pub labels-past : (q : ℕ) → r .count ≤ q → length (entryAt (drawn text records) i .labels) ≤ q
+  labels-past q h = omega (arith, labels-count, h)
+
+  -- a label of the entry, by the record's kind and third byte
+  pub addable : (l : Layout) (ids : List ℕ) (q : ℕ) {out : List ℕ} {m : ℕ} (name : Label) → name ≡ labelNo (entryAt (drawn text records) i) q → Sayable (drawn text records) l ids i
+      → q < length (entryAt (drawn text records) i .labels) → m + length (labelIds (drawn text records) l ids (entryAt (drawn text records) i) (labelNo (entryAt (drawn text records) i) q)) ≤ length out
+      → Addable (drawn text records) l ids (r .kind) (r .third) name out m
+  unfolding entryOf
+  addable l ids q {out = out} {m = m} name en t h room =
+      let es = drawn text records in
+      let label = labelNo (entryAt es i) q in
+      rw en (subst (λ (u : Entry). Addable es l ids (u .kind) (u .third) label out m) entry-is (record { found = t .found q h; room = room }))
+
+  pub added-of : (l : Layout) (ids : List ℕ) (q : ℕ) {was : List ℕ} {m n : ℕ} {now : List ℕ} (name : Label) → name ≡ labelNo (entryAt (drawn text records) i) q
+      → Added (spanIds (drawn text records) l ids (spanOf (drawn text records) (r .kind) (r .third) name)) was m n now
+      → Added (labelIds (drawn text records) l ids (entryAt (drawn text records) i) (labelNo (entryAt (drawn text records) i) q)) was m n now
+  unfolding entryOf
+  added-of l ids q {was = was} {m = m} {n = n} {now = now} name en a =
+      let es = drawn text records in
+      let label = labelNo (entryAt es i) q in
+      subst (λ (u : Entry). Added (spanIds es l ids (spanOf es (u .kind) (u .third) label)) was m n now) (sym entry-is) (rw en at a)
+
+-- ---- the ids of a label
+
+-- the shape that a label names has a number
+pub shape-in : (es : List Entry) (heads nexts numbers : List ℕ) (l : Layout) (ids : List ℕ) (kind third : ℕ) (label : Label) (out : List ℕ) (m : ℕ)
+    → Tables es heads nexts numbers → Addable es l ids kind third label out m → (s : Span) → s ≡ spanOf es kind third label → s .shape < length numbers
+shape-in es heads nexts numbers l ids kind third label out m t a s e = rw e (omega (arith, a .found, t .long))
+
+module _ (es : List Entry) (l : Layout) (ids : List ℕ) (kind third : ℕ) (label : Label) (s : Span) (s-is : s ≡ spanOf es kind third label) where
+  pub span-fits : s .first + s .count ≤ 6
+  span-fits = rw s-is (span-inside es kind third label)
+
+  pub span-count : length (spanIds es l ids (spanOf es kind third label)) ≡ s .count
+  span-count = label-length es l ids kind third label ∙ ap (λ (t : Span). t .count) (sym s-is)
+
+  piece-is : (six : List ℕ) (k n : ℕ) → six ≡ sixOf l ids k n → k ≡ kindNo es (s .shape) → n ≡ numberNo es (s .shape) → take (s .count) (drop (s .first) six) ≡ spanIds es l ids (spanOf es kind third label)
+  unfolding spanIds
+  piece-is six k n e6 ek en = rw (e6, ek, en, s-is) refl
+
+  pub added : (six : List ℕ) (k n : ℕ) → six ≡ sixOf l ids k n → k ≡ kindNo es (s .shape) → n ≡ numberNo es (s .shape)
+      → (was : List ℕ) (m : ℕ) (now : List ℕ) → now ≡ over was m (take (s .count) (drop (s .first) six)) → Added (spanIds es l ids (spanOf es kind third label)) was m (m + s .count) now
+  added six k n e6 ek en was m now e = record { count-is = omega (arith, span-count); list-is = e ∙ ap (over was m) (piece-is six k n e6 ek en) }
+
+-- ---- the ids of a row
+
+module _ (es : List Entry) (l : Layout) (ids : List ℕ) (i : ℕ) where
+  -- the ids of the first q labels
+  abbrev pub idsTo : ℕ → List ℕ
+  idsTo q = flat (labelIds es l ids (entryAt es i)) (take q (entryAt es i .labels))
+
+  -- q labels are done
+  pub record Filling (was : List ℕ) (m : ℕ) (out : List ℕ) (q : ℕ) : Type 0 where
+    pub is : out ≡ onto was (idsTo q)
+    pub count-is : m ≡ length (idsTo q)
+    pub most : q ≤ length (entryAt es i .labels)
+    pub long : length out ≡ length was
+
+  pub filling-start : (was : List ℕ) → Filling was 0 was 0
+  filling-start was = record { is = refl; count-is = refl; most = omega arith; long = refl }
+
+  -- the ids of one label more
+  ids-more : (q : ℕ) → q < length (entryAt es i .labels) → idsTo (q + 1) ≡ idsTo q ++ labelIds es l ids (entryAt es i) (labelNo (entryAt es i) q)
+  ids-more q h = rw add-one (flat-suc (labelIds es l ids (entryAt es i)) (entryAt es i .labels) q [] h)
+
+  -- some are no more than all
+  ids-some : (q : ℕ) → length (idsTo q) ≤ length (rowIds es l ids (entryAt es i))
+  ids-some q =
+      let f = labelIds es l ids (entryAt es i) in
+      let ls = entryAt es i .labels in
+      let whole : flat f ls ≡ flat f (take q ls) ++ flat f (drop q ls) = ap (flat f) (sym (take-append-drop q ls)) ∙ flat-append f (take q ls) (drop q ls) in
+      omega (arith, ap length whole, length-append (flat f (take q ls)) (flat f (drop q ls)))
+
+  module _ {was : List ℕ} {m : ℕ} {out : List ℕ} {q : ℕ} (so-far : Filling was m out q) (h : q < length (entryAt es i .labels)) where
+    -- the ids of the next label
+    abbrev pub next-ids : List ℕ
+    next-ids = labelIds es l ids (entryAt es i) (labelNo (entryAt es i) q)
+
+    pub room-for : Sayable es l ids i → length was ≡ mostIds → m + length next-ids ≤ length out
+    room-for t w = omega (arith, so-far .count-is, so-far .long, w, t .fits, ids-some (q + 1), ap length (ids-more q h), length-append (idsTo q) next-ids)
+
+    pub filling-turn : (n : ℕ) (out′ : List ℕ) → length out′ ≡ length out → Added next-ids out m n out′ → Filling was n out′ (q + 1)
+    filling-turn n out′ same a = record {
+      is = a .list-is ∙ rw (so-far .is, so-far .count-is) (over-front (idsTo q) next-ids was (length (idsTo q)) refl ∙ rw (ids-more q h, length-append (idsTo q) next-ids) refl);
+      count-is = omega (arith, a .count-is, so-far .count-is, ap length (ids-more q h), length-append (idsTo q) next-ids);
+      most = omega arith;
+      long = same ∙ so-far .long;
+    }
+
+  -- all labels
+  pub filling-end : {was : List ℕ} {m : ℕ} {out : List ℕ} {q : ℕ} → Filling was m out q → length (entryAt es i .labels) ≤ q → Begins (rowIds es l ids (entryAt es i)) was m out
+  filling-end {was = was} {m = m} {out = out} {q = q} f h =
+      let all : take q (entryAt es i .labels) ≡ entryAt es i .labels = ap (λ (k : ℕ). take k (entryAt es i .labels)) (let same : q ≡ length (entryAt es i .labels) = omega (arith, f .most) in same) ∙ take-length (entryAt es i .labels) in
+      record { count-is = rw all at (f .count-is); list-is = rw all at (f .is) }
+
+-- ---- the bytes of a row
+
+zeros-drop : (k n : ℕ) → drop {A = ℕ} k (replicate n 0) ≡ replicate (n - k) 0
+zeros-drop zero n = let same : n - 0 ≡ n = omega arith in rw same refl
+zeros-drop (suc k) zero = let none : 0 - suc k ≡ 0 = omega arith in rw none refl
+zeros-drop (suc k) (suc n) = let same : suc n - suc k ≡ n - k = omega arith in rw same (zeros-drop k n)
+
+zeros-behind : (ids : List ℕ) (n : ℕ) → onto (replicate n 0) ids ≡ ids ++ replicate (n - length ids) 0
+zeros-behind ids n = ap (λ (z : List ℕ). ids ++ z) (zeros-drop (length ids) n)
+
+module _ (text records : List ℕ) (l : Layout) (ids : List ℕ) (i : ℕ) (r : Record) (e : r ≡ decodeAt records i) where
+  pub row-is : (m : ℕ) (out : List ℕ) → Begins (rowIds (drawn text records) l ids (entryAt (drawn text records) i)) (replicate mostIds 0) m out → (b : List ℕ)
+      → b ≡ rowBytesOf (r .kind) m (r .third) out (r .x) → b ≡ rowAt (drawn text records) l ids i
+  unfolding rowAt encodeRow rowBytesOf entryOf
+  row-is m out begins b eb =
+      let given = rowIds (drawn text records) l ids (entryAt (drawn text records) i) in
+      let bytes : Entry → List ℕ = λ t. rowBytesOf (t .kind) (length given) (t .third) (given ++ replicate (mostIds - length given) 0) (t .x) in
+      eb ∙ rw (begins .count-is, begins .list-is, zeros-behind given mostIds) (sym (ap bytes (entry-is text records i r e)))
+
+-- ---- the rows
+
+pub put-is : {d : List ℕ} {at : ℕ} {bs : List ℕ} {b : Bool} {after : List ℕ} → Put d at bs b after → at + length bs ≤ length d → after ≡ written d at bs
+put-is {d = d} {at = at} {bs = bs} p h = p .buffer ∙ rw (le-leb (at + length bs) (length d) h) refl
+
+neither : (a b : Bool) → (a || b) ≡ false → (a ≡ false) × (b ≡ false)
+neither true b e = let z : _≡_ {A = ℕ} 0 1 = cc in absurd (omega arith)
+neither false b e = (refl, e)
+
+either : (a b : Bool) → (a || b) ≡ true → (a ≡ true) ⊎ (b ≡ true)
+either true b e = inl refl
+either false b e = inr e
+
+rule-of : (kind : ℕ) → (ltb kind 4 || ltb 23 kind) ≡ false → Rule kind
+rule-of kind e = let n = neither (ltb kind 4) (ltb 23 kind) e in (ltb-false kind 4 (n .0), ltb-false 23 kind (n .1))
+
+no-rule : (kind : ℕ) → (ltb kind 4 || ltb 23 kind) ≡ true → Rule kind → ⊥
+no-rule kind e r = ⊎-elim (λ t. let h : kind < 4 = ltb-true kind 4 t in omega (arith, r .0)) (λ t. let h : 23 < kind = ltb-true 23 kind t in omega (arith, r .1)) (either (ltb kind 4) (ltb 23 kind) e)
+
+module _ (es : List Entry) (l : Layout) (ids : List ℕ) (i : ℕ) where
+  -- what an entry adds where it is no rule, and where it is one
+  pub if-none : (Rule (kindNo es i) → ⊥) → rowIf es l ids i ≡ []
+  unfolding rowIf
+  if-none f = rw (refuted (says-within 4 23 (kindNo es i)) f) refl
+
+  pub if-row : Rule (kindNo es i) → rowIf es l ids i ≡ rowAt es l ids i
+  unfolding rowIf
+  if-row u = rw (says-within 4 23 (kindNo es i) .back u) refl
+
+  pub row-length : Sayable es l ids i → length (rowAt es l ids i) ≡ rowBytes
+  unfolding rowAt
+  row-length s = length-row _ (s .fits)
+
+module _ (es : List Entry) (l : Layout) (ids : List ℕ) (i : ℕ) (rows : List ℕ) (at kind : ℕ) (is : kind ≡ kindNo es i) (w : Writing es l ids i rows at) where
+  -- no rule: nothing is written
+  pub wrote-none : (ltb kind 4 || ltb 23 kind) ≡ true → Wrote es l ids i rows at at rows
+  wrote-none t =
+      let empty : rowIf es l ids i ≡ [] = if-none es l ids i (λ u. no-rule kind t (rw is u)) in
+      record { place = rw empty (omega arith); rows-are = rw empty (sym (written-none rows at (omega (arith, w .room)))) }
+
+  -- a rule: its row is written
+  module _ (inside : (ltb kind 4 || ltb 23 kind) ≡ false) where
+    pub a-rule : Rule (kindNo es i)
+    a-rule = rw (← is) (rule-of kind inside)
+
+    pub wrote-row : (row rows′ : List ℕ) (b : Bool) → row ≡ rowAt es l ids i → Put rows at row b rows′ → Wrote es l ids i rows at (at + rowBytes) rows′
+    wrote-row row rows′ b er p =
+        let full : row ≡ rowIf es l ids i = er ∙ sym (if-row es l ids i a-rule) in
+        record {
+          place = rw (if-row es l ids i a-rule, row-length es l ids i (w .sayable a-rule)) refl;
+          rows-are = rw (← full) (put-is p (rw full (w .room)));
+        }
+
+-- ---- all rows
+
+-- bytes at the start, and what was behind them
+pub written-onto : (d bs : List ℕ) → written d 0 bs ≡ onto d bs
+unfolding written
+written-onto d bs = let none : 0 + length bs ≡ length bs = omega arith in rw none refl
+
+module _ (es : List Entry) (l : Layout) (ids rows : List ℕ) where
+  -- the rows of the first i entries are written
+  pub record Writes (now : List ℕ) (at i : ℕ) : Type 0 where
+    pub is : now ≡ written rows 0 (rowsBelow es l ids i)
+    pub place : at ≡ length (rowsBelow es l ids i)
+    pub most : i ≤ length es
+    pub long : length now ≡ length rows
+
+  pub writes-start : Writes rows 0 0
+  unfolding rowsBelow
+  writes-start = record { is = sym (written-none rows 0 (omega arith)); place = refl; most = omega arith; long = refl }
+
+  rows-more : (i : ℕ) → rowsBelow es l ids (i + 1) ≡ rowsBelow es l ids i ++ rowIf es l ids i
+  unfolding rowsBelow
+  rows-more i = rw add-one refl
+
+  -- those before an entry have room where all have
+  below : (n k : ℕ) → length (rowsBelow es l ids n) ≤ length (rowsBelow es l ids (n + k))
+  below n zero = let same : n + 0 ≡ n = omega arith in rw same (le-refl (length (rowsBelow es l ids n)))
+  below n (suc k) =
+      let same : n + suc k ≡ n + k + 1 = omega arith in
+      omega (arith, below n k, ap (λ (m : ℕ). length (rowsBelow es l ids m)) same, ap length (rows-more (n + k)), length-append (rowsBelow es l ids (n + k)) (rowIf es l ids (n + k)))
+
+  module _ (w : Writable es l ids rows) {now : List ℕ} {at i : ℕ} (s : Writes now at i) (h : i < length es) where
+    pub room-left : at + length (rowIf es l ids i) ≤ length rows
+    room-left =
+        let k = length es - (i + 1) in
+        let all : i + 1 + k ≡ length es = omega arith in
+        omega (arith, s .place, ap length (rows-more i), length-append (rowsBelow es l ids i) (rowIf es l ids i), below (i + 1) k, ap (λ (n : ℕ). length (rowsBelow es l ids n)) all, w .room)
+
+    pub writing : Writing es l ids i now at
+    writing = record { sayable = λ u. w .each i h u; room = omega (arith, room-left, s .long) }
+
+    pub writes-turn : (then : ℕ) (now′ : List ℕ) → length now′ ≡ length now → Wrote es l ids i now at then now′ → Writes now′ then (i + 1)
+    writes-turn then now′ same r = record {
+      is =
+          let place : at ≡ 0 + length (rowsBelow es l ids i) = omega (arith, s .place) in
+          r .rows-are ∙ rw (s .is, place, rows-more i) (written-append rows 0 (rowsBelow es l ids i) (rowIf es l ids i) (omega (arith, room-left, s .place)));
+      place = r .place ∙ omega (arith, s .place, ap length (rows-more i), length-append (rowsBelow es l ids i) (rowIf es l ids i));
+      most = omega arith;
+      long = same ∙ s .long;
+    }
+
+  pub writes-end : {now : List ℕ} {at i : ℕ} → Writes now at i → length es ≤ i → now ≡ onto rows (rowsBelow es l ids (length es))
+  writes-end {i = i} s h = let all : i ≡ length es = omega (arith, s .most) in s .is ∙ written-onto rows (rowsBelow es l ids i) ∙ rw all refl

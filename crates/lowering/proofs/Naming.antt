@@ -1,0 +1,102 @@
+-- What a rule's label names, step by step as the code finds it: by the chains of the declarations, the shape's record; by its kind, the slots. Assumes nothing.
+use mathlib.Core.Path.{_≡_, refl, sym, _∙_}
+use mathlib.Core.Bool.{Bool, true, false, cond}
+use mathlib.Core.List.{List, [], _∷_}
+use Prim.Native.Nat.{ℕ, _+_, _-_, _≤_, _<_}
+use native.Mathlib.Omega.{arith}
+use native.Mathlib.Numerals.{add-one}
+use lib.ListN.{length, getD, set, take, drop, length-set, length-drop}
+use lib.Seq.{paste, paste-zero, paste-suc, getD-take, getD-drop, length-take-le, take-length}
+use lib.Dec.{ltb, eqb}
+use borrow.Author.Tests.{lt-ltb, le-ltb, ltb-false}
+use Rattle.layout.specs.Push.{over}
+use Rattle.ground.specs.Words.{bytes}
+use Rattle.record.specs.Decode.{decodeAt}
+use Rattle.record.specs.Entry.{Label}
+use Rattle.index.specs.Labels.{drawn, same, labelled, lowestOr, kindNo}
+use Rattle.index.specs.Chains.{Chained, walkOf}
+use Rattle.index.proofs.Drawn.{drawn-kind}
+use Rattle.index.proofs.Found.{found}
+use Rattle.lowering.specs.Slots.{y-axis}
+use Rattle.lowering.specs.declared.spans.Span.{Span}
+use Rattle.lowering.specs.Steps.{shapeNo, sizeBy, centerBy, axisAt, endsIn, wholeSpan, centerSpan, pointSpan, partSpan}
+
+-- ---- the end of a label
+
+module _ (l suffix : Label) where
+  pub ends-short : length l < length suffix → false ≡ endsIn l suffix
+  ends-short h = rw (lt-ltb (length l) (length suffix) h) refl
+
+  pub ends-long : length suffix ≤ length l → endsIn l suffix ≡ same (drop (length l - length suffix) l) suffix
+  ends-long h = rw (le-ltb (length l) (length suffix) h) refl
+
+  -- a label that ends in another is as long at least
+  pub ends-length : endsIn l suffix ≡ true → length suffix ≤ length l
+  ends-length e = ltb-false (length l) (length suffix) (go (ltb (length l) (length suffix)) refl e)
+    where
+      go : (t : Bool) → ltb (length l) (length suffix) ≡ t → cond t false (same (drop (length l - length suffix) l) suffix) ≡ true → ltb (length l) (length suffix) ≡ false
+      go true e f = let z : _≡_ {A = ℕ} 0 1 = cc in absurd (omega arith)
+      go false e f = e
+
+-- ---- spans
+
+module _ (text records heads nexts : List ℕ) (c : Chained (drawn text records) 1 3 heads nexts) (l : Label) (shape : ℕ) (found-it : shape ≡ walkOf (drawn text records) 1 3 heads nexts l) where
+  -- the record of the shape
+  pub shape-is : shape ≡ shapeNo (drawn text records) l
+  shape-is = found-it ∙ found (drawn text records) 1 3 1 3 heads nexts l c (omega arith) (omega arith)
+
+  kind-is : (k : ℕ) → k ≡ decodeAt records shape .kind → k ≡ kindNo (drawn text records) (shapeNo (drawn text records) l)
+  kind-is k ek = rw (← shape-is) (ek ∙ sym (drawn-kind text records shape))
+
+  pub span-whole : (k count : ℕ) → k ≡ decodeAt records shape .kind → count ≡ sizeBy k → record { shape = shape; first = 0; count = count } ≡ wholeSpan (drawn text records) l
+  span-whole k count ek ec = rw (ec, kind-is k ek, shape-is) refl
+
+  pub span-center : (k center third axis : ℕ) → k ≡ decodeAt records shape .kind → center ≡ centerBy k → axis ≡ axisAt third
+      → record { shape = shape; first = center + axis; count = 1 } ≡ centerSpan (drawn text records) third l
+  span-center k center third axis ek ec ea = rw (ec, ea, kind-is k ek, shape-is) refl
+
+  pub span-point : (third axis : ℕ) → axis ≡ axisAt third → record { shape = shape; first = axis; count = 1 } ≡ pointSpan (drawn text records) third l
+  span-point third axis ea = rw (ea, shape-is) refl
+
+one-of : (t : Bool) (n : ℕ) → cond t n 0 ≤ n
+one-of true n = omega arith
+one-of false n = omega arith
+
+-- where a center's x or y stands is a small number
+pub center-small : (kind third : ℕ) → centerBy kind + axisAt third ≤ 5
+center-small kind third = omega (arith, one-of (eqb kind 3) 4, one-of (eqb third y-axis) 1)
+
+-- a center, or a point
+module _ (text records : List ℕ) (third : ℕ) (l : Label) (s : Span) (t : Bool) (ends : t ≡ endsIn l (bytes ".center")) where
+  pub part-center : t ≡ true → s ≡ centerSpan (drawn text records) third (take (length l - 7) l) → s ≡ partSpan (drawn text records) third l
+  part-center e es = es ∙ rw (sym ends ∙ e) refl
+
+  pub part-point : t ≡ false → s ≡ pointSpan (drawn text records) third l → s ≡ partSpan (drawn text records) third l
+  part-point e es = es ∙ rw (sym ends ∙ e) refl
+
+-- ---- ids put behind others
+
+-- k of the ids are in their places
+pub record Appending (d : List ℕ) (m : ℕ) (six : List ℕ) (first count : ℕ) (out : List ℕ) (k : ℕ) : Type 0 where
+  pub is : out ≡ paste d m (take count (drop first six)) k
+  pub most : k ≤ count
+  pub long : length out ≡ length d
+
+pub append-start : {d : List ℕ} {m : ℕ} {six : List ℕ} {first count : ℕ} → Appending d m six first count d 0
+append-start {d = d} {m = m} {six = six} {first = first} {count = count} = record { is = paste-zero d m (take count (drop first six)); most = omega arith; long = refl }
+
+module _ {d : List ℕ} {m : ℕ} {six : List ℕ} {first count : ℕ} {out : List ℕ} {k : ℕ} (a : Appending d m six first count out k) where
+  piece-length : first + count ≤ length six → length (take count (drop first six)) ≡ count
+  piece-length h = length-take-le count (drop first six) (rw (length-drop first six) (omega arith))
+
+  pub append-turn : m + count ≤ length d → first + count ≤ length six → k < count → Appending d m six first count (set out (m + k) (getD six (first + k) 0)) (k + 1)
+  append-turn room inside h = record {
+    is = rw (add-one, a .is, ← getD-drop first six k 0, ← getD-take count (drop first six) k 0 h) (paste-suc d m (take count (drop first six)) k 0 (omega arith) (rw (piece-length inside) h));
+    most = omega arith;
+    long = simp length-set (a .long);
+  }
+
+  pub append-end : first + count ≤ length six → count ≤ k → out ≡ over d m (take count (drop first six))
+  append-end inside h =
+      let n : k ≡ length (take count (drop first six)) = omega (arith, piece-length inside, a .most) in
+      a .is ∙ rw (n, take-length) refl

@@ -1,0 +1,154 @@
+-- The slots of a fine drawing are the components of its declared shapes, one for one: a slot's label tells the shape, and its place in the shape
+-- the component. Assumes nothing.
+use mathlib.Core.Path.{_≡_, refl, sym, ap, _∙_, subst}
+use mathlib.Core.List.{List, _++_}
+use Prim.Native.Nat.{ℕ, zero, suc, _+_, _-_, _<_}
+use native.Mathlib.Omega.{arith}
+use native.Mathlib.Decide.{decLt}
+use lib.ListN.{length, getD, length-append, List·getD-append}
+use lib.Seq.{getD-append-add}
+use Rattle.refusal.specs.First.{EachBelow}
+use Rattle.record.specs.Entry.{Label, Entry}
+use Rattle.index.specs.Labels.{kindNo, nameNo}
+use Rattle.drawing.specs.Needs.{Shape, point, circle, arc}
+use Rattle.lowering.specs.Slots.{Slot, slotsOfShape, slots, size, firstSlot}
+use Rattle.lowering.specs.Offsets.{componentAt}
+use Rattle.lowering.specs.Demand.{noSlot, slotAt, Declares, ComponentOf, OneComponent}
+use Rattle.lowering.proofs.Lists.{Each, each-of, each-at}
+use Rattle.lowering.proofs.Counts.{length-shape}
+use Rattle.lowering.proofs.Fine.{Fine, same-shape, same-record}
+use Rattle.lowering.proofs.Around.{around-fine, each-slot, each-of-all, own-label}
+
+-- ---- each slot is a component of a declared shape
+
+abbrev Component : List Entry → Slot → Type 0
+Component es t = (i : ℕ) × (s : Shape) × (k : ℕ) × ComponentOf es i s k t
+
+module _ (es : List Entry) where
+  components : Each (Component es) (slots es)
+  components =
+      each-of-all (Component es) es
+      (λ s. each-slot (λ (l : Label). (i : ℕ) × Declares es i s × (nameNo es i ≡ l)) (Component es) s es
+      (λ l d. each-of (Component es) (slotsOfShape s l) noSlot
+      (λ k h. (
+        d .0,
+        s,
+        k,
+        record {
+          declared = d .1;
+          one-of-it = subst (λ (n : ℕ). k < n) (length-shape s l) h;
+          is = ap (λ (z : Label). getD (slotsOfShape s z) k noSlot) (sym (d .2));
+        },
+      )))
+      (λ j d. (j, d, refl)))
+
+  pub component-at : EachBelow (length (slots es)) (λ j. (i : ℕ) × (s : Shape) × (k : ℕ) × ComponentOf es i s k (slotAt es j))
+  component-at j h = each-at (Component es) (slots es) noSlot components j h
+
+-- ---- an element of the middle of three lists
+
+module _ (xs ys zs : List Slot) (P : Slot → Type 0) (a : Each (λ t. P t → ⊥) xs) (b : Each (λ t. P t → ⊥) zs) where
+  abbrev Middle : ℕ → Type 0
+  Middle j = (k : ℕ) × (k < length ys) × (j ≡ length xs + k) × (getD (xs ++ (ys ++ zs)) j noSlot ≡ getD ys k noSlot)
+
+  middle : (j : ℕ) → j < length (xs ++ (ys ++ zs)) → P (getD (xs ++ (ys ++ zs)) j noSlot) → Middle j
+  middle j h p =
+      elim (decLt j (length xs)) [
+        | yes g ↦ absurd (each-at (λ t. P t → ⊥) xs noSlot a j g (subst P (List·getD-append xs (ys ++ zs) noSlot j g) p))
+        | no f ↦ second (j - length xs) (omega (arith, f))
+      ]
+    where
+      third : (k m : ℕ) → j ≡ length xs + k → k ≡ length ys + m → Middle j
+      third k m e f =
+          let q : getD (xs ++ (ys ++ zs)) j noSlot ≡ getD zs m noSlot = rw (e, getD-append-add xs (ys ++ zs) k noSlot, f, getD-append-add ys zs m noSlot) refl in
+          absurd (each-at (λ t. P t → ⊥) zs noSlot b m (omega (arith, h, e, f, length-append xs (ys ++ zs), length-append ys zs)) (subst P q p))
+
+      second : (k : ℕ) → j ≡ length xs + k → Middle j
+      second k e =
+          elim (decLt k (length ys)) [
+            | yes g ↦ (k, g, e, rw (e, getD-append-add xs (ys ++ zs) k noSlot) (List·getD-append ys zs noSlot k g))
+            | no f ↦ third k (k - length ys) e (omega (arith, f))
+          ]
+
+-- ---- the components of one shape differ: each tells its place
+
+pub place-told : (s : Shape) (l : Label) (k : ℕ) → k < size s → componentAt s (getD (slotsOfShape s l) k noSlot .suffix) (getD (slotsOfShape s l) k noSlot .axis) ≡ k
+place-told point l zero h = refl
+place-told point l (suc zero) h = refl
+place-told point l (suc (suc k)) h = absurd (omega (arith, h))
+place-told circle l zero h = refl
+place-told circle l (suc zero) h = refl
+place-told circle l (suc (suc zero)) h = refl
+place-told circle l (suc (suc (suc k))) h = absurd (omega (arith, h))
+place-told arc l zero h = refl
+place-told arc l (suc zero) h = refl
+place-told arc l (suc (suc zero)) h = refl
+place-told arc l (suc (suc (suc zero))) h = refl
+place-told arc l (suc (suc (suc (suc zero)))) h = refl
+place-told arc l (suc (suc (suc (suc (suc zero))))) h = refl
+place-told arc l (suc (suc (suc (suc (suc (suc k)))))) h = absurd (omega (arith, h))
+
+one-place : (s : Shape) (l : Label) (a b : ℕ) → a < size s → b < size s → getD (slotsOfShape s l) a noSlot ≡ getD (slotsOfShape s l) b noSlot → a ≡ b
+one-place s l a b h g e = sym (place-told s l a h) ∙ ap (λ (t : Slot). componentAt s (t .suffix) (t .axis)) e ∙ place-told s l b g
+
+-- a component has its shape's label
+pub label-of : (es : List Entry) (i : ℕ) (s : Shape) (k : ℕ) (t : Slot) → ComponentOf es i s k t → t .shape ≡ nameNo es i
+label-of es i s k t c =
+    let l = nameNo es i in
+    ap (λ (z : Slot). z .shape) (c .is)
+    ∙ each-at (λ (z : Slot). z .shape ≡ l) (slotsOfShape s l) noSlot (own-label (λ (z : Label). z ≡ l) s l refl) k (subst (λ (n : ℕ). k < n) (sym (length-shape s l)) (c .one-of-it))
+
+-- ---- a slot and its component
+
+module _ (es : List Entry) (w : Fine es) where
+  -- component k of the shape that record i declares is the slot firstSlot + k
+  pub slot-of : (i : ℕ) (s : Shape) (k : ℕ) → Declares es i s → k < size s
+      → (firstSlot s es i + k < length (slots es)) × ComponentOf es i s k (slotAt es (firstSlot s es i + k))
+  slot-of i s k d g =
+      let a = around-fine es w i s d in
+      let l = nameNo es i in
+      let own = slotsOfShape s l in
+      let n : k < length own = subst (λ (m : ℕ). k < m) (sym (length-shape s l)) g in (
+        rw (a .is) (omega (arith, n, a .place, length-append (a .front) (own ++ a .rest), length-append own (a .rest))),
+        record {
+          declared = d;
+          one-of-it = g;
+          is = rw (← (a .place), a .is, getD-append-add (a .front) (own ++ a .rest) k noSlot) (List·getD-append own (a .rest) noSlot k n);
+        },
+      )
+
+  -- and a slot with that shape's label is one of them
+  slot-is : (i : ℕ) (s : Shape) (j : ℕ) → Declares es i s → j < length (slots es) → slotAt es j .shape ≡ nameNo es i
+      → (k : ℕ) × (k < size s) × (j ≡ firstSlot s es i + k) × (slotAt es j ≡ getD (slotsOfShape s (nameNo es i)) k noSlot)
+  slot-is i s j d g q =
+      let a = around-fine es w i s d in
+      let l = nameNo es i in
+      let (k, b, p, r) = middle (a .front) (slotsOfShape s l) (a .rest) (λ (t : Slot). t .shape ≡ l) (a .not-before) (a .not-behind) j (rw (a .is) at g) (rw (a .is) at q) in
+      (k, rw (length-shape s l) at b, p ∙ ap (λ (n : ℕ). n + k) (a .place), ap (λ (z : List Slot). getD z j noSlot) (a .is) ∙ r)
+
+  -- a component's place
+  pub place-is : (i : ℕ) (s : Shape) (k j : ℕ) → j < length (slots es) → ComponentOf es i s k (slotAt es j) → j ≡ firstSlot s es i + k
+  place-is i s k j h c =
+      let (m, g, p, e) = slot-is i s j (c .declared) h (label-of es i s k (slotAt es j) c) in
+      let same-place : m ≡ k = one-place s (nameNo es i) m k g (c .one-of-it) (sym e ∙ c .is) in
+      p ∙ ap (λ (n : ℕ). firstSlot s es i + n) same-place
+
+  -- a slot is one component only
+  only-one : (t : Slot) (i i′ : ℕ) (s s′ : Shape) (k k′ : ℕ) → ComponentOf es i s k t → ComponentOf es i′ s′ k′ t → (i ≡ i′) × (s ≡ s′) × (k ≡ k′)
+  only-one t i i′ s s′ k k′ c c′ =
+      let one : i ≡ i′ = same-record es w i i′ s s′ (c .declared) (c′ .declared) (sym (label-of es i s k t c) ∙ label-of es i′ s′ k′ t c′) in
+      let shapes : s ≡ s′ = same-shape s s′ (sym (c .declared .kind-is) ∙ ap (kindNo es) one ∙ c′ .declared .kind-is) in
+      let own : getD (slotsOfShape s′ (nameNo es i′)) k noSlot ≡ getD (slotsOfShape s′ (nameNo es i′)) k′ noSlot = rw (← shapes, ← one) (sym (c .is)) ∙ c′ .is in
+      (one, shapes, one-place s′ (nameNo es i′) k k′ (subst (λ (z : Shape). k < size z) shapes (c .one-of-it)) (c′ .one-of-it) own)
+
+  pub one-component : EachBelow (length (slots es)) (OneComponent es)
+  one-component j h =
+      let (i, s, k, c) = component-at es j h in
+      record {
+        declaring-record = i;
+        shape = s;
+        component = k;
+        this = c;
+        here = place-is i s k j h c;
+        no-other = λ i′ s′ k′ c′. only-one (slotAt es j) i′ i s′ s k′ k c′ c;
+      }

@@ -1,0 +1,89 @@
+-- What a label names lies among six ids, whatever the label, the layout and the ids are: by the cases of the steps. Assumes nothing.
+use mathlib.Core.Path.{_≡_, refl}
+use mathlib.Core.Bool.{Bool, true, false, cond}
+use mathlib.Core.List.{List}
+use Prim.Native.Nat.{ℕ, _+_, _≤_}
+use native.Mathlib.Omega.{arith}
+use lib.Dec.{eqb}
+use lib.ListN.{length, drop, length-drop}
+use lib.Seq.{length-take-le}
+use Rattle.ground.specs.Words.{bytes}
+use Rattle.layout.specs.declared.Layout.{Layout}
+use Rattle.layout.specs.declared.PointIds.{PointIds}
+use Rattle.layout.specs.declared.PointIds.the-variants as PI
+use Rattle.layout.specs.declared.CircleIds.{CircleIds}
+use Rattle.layout.specs.declared.CircleIds.the-variants as CI
+use Rattle.layout.specs.declared.ArcIds.{ArcIds}
+use Rattle.layout.specs.declared.ArcIds.the-variants as AI
+use Rattle.layout.specs.Look.{pointIds, circleIds, arcSlotIds}
+use Rattle.record.specs.Entry.{Label, Entry}
+use Rattle.index.specs.Labels.{kindNo}
+use Rattle.lowering.specs.declared.spans.Span.{Span}
+use Rattle.lowering.specs.Slots.{y-axis}
+use Rattle.lowering.specs.Steps.{byKind, shapeNo, endsIn, wholeSpan, centerSpan, pointSpan, partSpan, spanOf, pointSix, circleSix, arcSix, sixOf, numberNo, spanIds}
+
+-- what holds of three holds of the one that a kind chooses
+by-kind : {A : Type 0} (P : A → Type 0) (kind m n : ℕ) (x y z : A) → P x → P y → P z → P (byKind kind m n x y z)
+by-kind P kind m n x y z a b c = go (eqb kind m) (eqb kind n)
+  where
+    go : (s t : Bool) → P (cond s x (cond t y z))
+    go true t = a
+    go false true = b
+    go false false = c
+
+either-le : (b : Bool) (x y m : ℕ) → x ≤ m → y ≤ m → cond b x y ≤ m
+either-le true x y m h g = h
+either-le false x y m h g = g
+
+-- ---- spans
+
+abbrev Inside : Span → Type 0
+Inside s = s .first + s .count ≤ 6
+
+module _ (es : List Entry) (kind third : ℕ) (l : Label) where
+  axis-small : cond (eqb third y-axis) 1 0 ≤ 1
+  axis-small = either-le (eqb third y-axis) 1 0 1 (omega arith) (omega arith)
+
+  center-inside : (name : Label) → Inside (centerSpan es third name)
+  center-inside name = omega (arith, axis-small, either-le (eqb (kindNo es (shapeNo es name)) 3) 4 0 4 (omega arith) (omega arith))
+
+  part-inside : (b : Bool) (name : Label) → Inside (cond b (centerSpan es third name) (pointSpan es third l))
+  part-inside true name = center-inside name
+  part-inside false name = omega (arith, axis-small)
+
+  pub span-inside : spanOf es kind third l .first + spanOf es kind third l .count ≤ 6
+  unfolding spanOf
+  span-inside =
+      by-kind Inside kind 4 18 (partSpan es third l) (centerSpan es third l) (wholeSpan es l) (part-inside (endsIn l (bytes ".center")) _) (center-inside l)
+      (by-kind (λ (n : ℕ). 0 + n ≤ 6) (kindNo es (shapeNo es l)) 1 2 2 3 6 (omega arith) (omega arith) (omega arith))
+
+-- ---- six ids
+
+six-of-point : (a : PointIds) → length (pointSix a) ≡ 6
+six-of-point (PI.Found v) = refl
+six-of-point (PI.Refused r) = refl
+
+six-of-circle : (a : CircleIds) → length (circleSix a) ≡ 6
+six-of-circle (CI.Found v) = refl
+six-of-circle (CI.Refused r) = refl
+
+six-of-arc : (a : ArcIds) → length (arcSix a) ≡ 6
+six-of-arc (AI.Found v) = refl
+six-of-arc (AI.Refused r) = refl
+
+pub six-length : (l : Layout) (ids : List ℕ) (kind n : ℕ) → length (sixOf l ids kind n) ≡ 6
+unfolding sixOf
+six-length l ids kind n =
+    by-kind (λ (xs : List ℕ). length xs ≡ 6) kind 1 2 (pointSix (pointIds l ids n)) (circleSix (circleIds l ids n)) (arcSix (arcSlotIds l ids n))
+    (six-of-point (pointIds l ids n)) (six-of-circle (circleIds l ids n)) (six-of-arc (arcSlotIds l ids n))
+
+-- a span has as many ids as it says
+pub span-length : (es : List Entry) (l : Layout) (ids : List ℕ) (s : Span) → s .first + s .count ≤ 6 → length (spanIds es l ids s) ≡ s .count
+unfolding spanIds
+span-length es l ids s h =
+    let six = sixOf l ids (kindNo es (s .shape)) (numberNo es (s .shape)) in
+    length-take-le (s .count) (drop (s .first) six) (omega (arith, h, length-drop (s .first) six, six-length l ids (kindNo es (s .shape)) (numberNo es (s .shape))))
+
+-- so has what a rule names by a label
+pub label-length : (es : List Entry) (l : Layout) (ids : List ℕ) (kind third : ℕ) (name : Label) → length (spanIds es l ids (spanOf es kind third name)) ≡ spanOf es kind third name .count
+label-length es l ids kind third name = span-length es l ids (spanOf es kind third name) (span-inside es kind third name)

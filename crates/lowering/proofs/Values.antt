@@ -1,0 +1,86 @@
+-- Each slot of a fine drawing starts at its component's guess: the slot belongs to a part, and the part has one guess. Assumes nothing.
+use mathlib.Core.Path.{_≡_, refl, sym, ap, _∙_, subst}
+use mathlib.Core.Bool.{Bool, true, false, cond}
+use mathlib.Core.List.{List, [], _∷_, _++_, map, map-append, List·Memᴰ}
+use Prim.Native.Nat.{ℕ, suc, _<_}
+use lib.Dec.{eqb}
+use lib.ListN.{length, getD, take, length-map}
+use lib.Ieee.{Float, nan, binary64, ofBits}
+use Rattle.refusal.specs.First.{EachBelow}
+use Rattle.record.specs.Entry.{Label, Entry}
+use Rattle.index.specs.Labels.{kindNo, nameNo, within}
+use Rattle.drawing.specs.Needs.{Shape, point, circle, arc, declaring, pairGuess, Part, parts}
+use Rattle.drawing.specs.Faults.{Guess}
+use Rattle.lowering.specs.Slots.{Slot, slot, x-axis, y-axis, no-axis, slotsOfPart, slotsOfShape, slotsOf, slots, numberFor, startOf, valuesOf}
+use Rattle.lowering.specs.Demand.{noSlot, slotAt, Starts}
+use Rattle.lowering.proofs.Lists.{Each, each-at, each-flat, each-mem, getD-map}
+use Rattle.lowering.proofs.Counts.{length-shape, slots-more}
+use Rattle.lowering.proofs.Fine.{Fine}
+use Rattle.lowering.proofs.Found.{guess-kind, guess-of}
+use Rattle.lowering.proofs.Places.{component-at, label-of}
+
+-- ---- a slot belongs to a part
+
+abbrev OfPart : Shape → Slot → Type 0
+OfPart s t = (p : Part) × List·Memᴰ p (parts s) × (t .suffix ≡ p .suffix)
+
+slots-of-part : (s : Shape) (l : Label) (p : Part) → List·Memᴰ p (parts s) → Each (OfPart s) (slotsOfPart l p)
+slots-of-part s l p m = go (eqb (p .guess) pairGuess)
+  where
+    go : (b : Bool) → Each (OfPart s) (cond b (slot l (p .suffix) x-axis ∷ slot l (p .suffix) y-axis ∷ []) (slot l (p .suffix) no-axis ∷ []))
+    go true = ((p, m, refl), ((p, m, refl), tt))
+    go false = ((p, m, refl), tt)
+
+of-part : (s : Shape) (l : Label) → Each (OfPart s) (slotsOfShape s l)
+of-part s l = each-flat (slotsOfPart l) (λ (p : Part). List·Memᴰ p (parts s)) (OfPart s) (slots-of-part s l) (parts s) (each-mem (parts s))
+
+-- ---- what it starts at
+
+pub starts : (es : List Entry) → Fine es → EachBelow (length (slots es)) (λ j. Starts es (slotAt es j) (startOf es (slotAt es j)))
+starts es w j h =
+    let t = slotAt es j in
+    let (i, s, k, c) = component-at es j h in
+    let l = nameNo es i in
+    let inside : k < length (slotsOfShape s l) = subst (λ (n : ℕ). k < n) (sym (length-shape s l)) (c .one-of-it) in
+    let (p, m, e) = each-at (OfPart s) (slotsOfShape s l) noSlot (of-part s l) k inside in
+    let suffix-is : t .suffix ≡ p .suffix = ap (λ (z : Slot). z .suffix) (c .is) ∙ e in
+    let (g, found) = guess-of es w i s (c .declared) p m in
+    let name : l ++ p .suffix ≡ t .shape ++ t .suffix = rw (label-of es i s k t c, suffix-is) refl in
+    record {
+      guess = g;
+      inside = found .inside;
+      is-guess = (subst Guess (sym (found .kind-is)) (guess-kind s p m), found .name-is ∙ name);
+      only = λ x y z. found .only x y (z .0) (z .1 ∙ sym name);
+      value = ap (λ (r : Entry). ofBits binary64 (numberFor (t .axis) r)) (rw name at (found .guess-is));
+    }
+
+-- ---- the starting values of all slots
+
+module _ (es : List Entry) where
+  pub length-values : length (valuesOf es) ≡ length (slots es)
+  unfolding valuesOf
+  length-values = length-map (slots es) (startOf es)
+
+  pub value-at : (j : ℕ) → j < length (slots es) → getD (valuesOf es) j nan ≡ startOf es (slotAt es j)
+  unfolding valuesOf
+  value-at j h = getD-map (startOf es) (slots es) j noSlot nan h
+
+  -- all points, then circles, then arcs
+  pub values-parts : valuesOf es ≡ map (startOf es) (slotsOf point es) ++ (map (startOf es) (slotsOf circle es) ++ map (startOf es) (slotsOf arc es))
+  unfolding valuesOf slots
+  values-parts =
+      map-append (startOf es) (slotsOf point es) (slotsOf circle es ++ slotsOf arc es)
+      ∙ ap (λ (l : List Float). map (startOf es) (slotsOf point es) ++ l) (map-append (startOf es) (slotsOf circle es) (slotsOf arc es))
+
+  -- the values of a kind's slots, one record more
+  pub values-more : (s : Shape) (i : ℕ) → i < length es
+      → map (startOf es) (slotsOf s (take (suc i) es))
+      ≡ map (startOf es) (slotsOf s (take i es)) ++ cond (within (declaring s) (declaring s) (kindNo es i)) (map (startOf es) (slotsOfShape s (nameNo es i))) []
+  values-more s i h =
+      ap (map (startOf es)) (slots-more s es i h)
+      ∙ map-append (startOf es) (slotsOf s (take i es)) (cond (within (declaring s) (declaring s) (kindNo es i)) (slotsOfShape s (nameNo es i)) [])
+      ∙ ap (λ (l : List Float). map (startOf es) (slotsOf s (take i es)) ++ l) (go (within (declaring s) (declaring s) (kindNo es i)))
+    where
+      go : (b : Bool) → map (startOf es) (cond b (slotsOfShape s (nameNo es i)) []) ≡ cond b (map (startOf es) (slotsOfShape s (nameNo es i))) []
+      go true = refl
+      go false = refl

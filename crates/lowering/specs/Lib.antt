@@ -1,0 +1,6 @@
+pub mod Slots
+pub mod Rows
+pub mod Lower
+pub mod Offsets
+pub mod Demand
+pub mod Steps

@@ -1,0 +1,269 @@
+-- Lowering step by step, as the code goes: shapes pushed in record order, and for each label of a rule the slots that it names, by their places.
+use mathlib.Core.Path.{_≡_}
+use mathlib.Core.Bool.{Bool, false, _||_, cond}
+use mathlib.Core.List.{List, [], _∷_, _++_}
+use Prim.Native.Nat.{ℕ, zero, suc, _+_, _*_, _-_, _≤_, _<_}
+use lib.Dec.{ltb, eqb}
+use lib.ListN.{length, getD, take, drop}
+use lib.Ieee.{Float}
+use Rattle.ground.specs.Words.{bytes}
+use Rattle.refusal.specs.First.{EachBelow, passed}
+use Rattle.layout.specs.declared.Layout.{Layout}
+use Rattle.layout.specs.declared.Pushed.{Pushed}
+use Rattle.layout.specs.declared.Pushed.the-variants as P
+use Rattle.layout.specs.declared.Point as LP
+use Rattle.layout.specs.declared.Circle as LC
+use Rattle.layout.specs.declared.Arc as LA
+use Rattle.layout.specs.declared.PointIds.{PointIds}
+use Rattle.layout.specs.declared.PointIds.the-variants as PI
+use Rattle.layout.specs.declared.CircleIds.{CircleIds}
+use Rattle.layout.specs.declared.CircleIds.the-variants as CI
+use Rattle.layout.specs.declared.ArcIds.{ArcIds}
+use Rattle.layout.specs.declared.ArcIds.the-variants as AI
+use Rattle.layout.specs.Slots as layout
+use Rattle.layout.specs.Refusals.{told, doneTests, idsEnd}
+use Rattle.layout.specs.Push.{State, over, onward, after, stepped}
+use Rattle.layout.specs.Run.{act, done}
+use Rattle.layout.specs.Look.{pointIds, circleIds, arcSlotIds}
+use Rattle.store.specs.Store.{written}
+use Rattle.record.specs.Record.{le64}
+use Rattle.record.specs.Entry.{Label, Entry, entryAt, labelNo}
+use Rattle.record.specs.Formed.{most}
+use Rattle.index.specs.Labels.{kindNo, nameNo, same, within, labelled, lowestOr}
+use Rattle.index.specs.Chains.{Chained}
+use Rattle.drawing.specs.Needs.{Shape, point, circle, arc}
+use Rattle.drawing.specs.Faults.{Rule}
+use Rattle.drawing.specs.Check.{countBelow, checkOf}
+use Rattle.lowering.specs.declared.spans.Span.{Span}
+use Rattle.lowering.specs.Slots.{slot, x-axis, y-axis, no-axis, startOf, slots, flat, layoutOf, valuesOf}
+use Rattle.lowering.specs.Rows.{rowMark, rowBytes, mostIds, le32, encodeRow, encodeRows, rowsOf}
+use Rattle.lowering.specs.Lower.{Room, roomIn, onto}
+use Rattle.lowering.specs.Demand.{Enough}
+
+-- ---- the shapes that are pushed
+
+-- the pair that a part starts at
+abbrev pub pairFor : List Entry → Label → Label → LP.Point
+pairFor es l suffix = record { x = startOf es (slot l suffix x-axis); y = startOf es (slot l suffix y-axis) }
+
+-- a circle, as it starts
+abbrev pub circleFor : List Entry → Label → LC.Circle
+circleFor es l = record { center = pairFor es l (bytes ".center"); radius = startOf es (slot l (bytes ".radius") no-axis) }
+
+-- an arc, as it starts
+abbrev pub arcFor : List Entry → Label → LA.Arc
+arcFor es l = record { a = pairFor es l (bytes ".a"); b = pairFor es l (bytes ".b"); center = pairFor es l (bytes ".center") }
+
+-- a shape, as it starts
+abbrev pub shapeFor : List Entry → Shape → Label → layout.Shape
+shapeFor es point l = layout.point (pairFor es l [])
+shapeFor es circle l = layout.circle (circleFor es l)
+shapeFor es arc l = layout.arc (arcFor es l)
+
+-- x for the kind m, y for the kind n, and z for any other
+abbrev pub byKind : {A : Type 0} → ℕ → ℕ → ℕ → A → A → A → A
+byKind kind m n x y z = cond (eqb kind m) x (cond (eqb kind n) y z)
+
+-- the shape that a kind declares
+abbrev pub shapeOf : ℕ → Shape
+shapeOf kind = byKind kind 1 2 point circle arc
+
+-- ---- pushes
+
+-- the layout after a push
+abbrev pub layoutAfter : Pushed → Layout → Layout
+layoutAfter (P.Good m next) l = m
+layoutAfter (P.Refused r) l = l
+
+-- the state after entry i is pushed, if it is of a kind
+unfoldable pub pushedAt : List Entry → ℕ → ℕ → State → State
+pushedAt es kind i s = cond (eqb (kindNo es i) kind) (after (shapeFor es (shapeOf kind) (nameNo es i)) s) s
+
+-- the state after those of the first n entries that are of a kind are pushed
+unfoldable pub pushedBelow : List Entry → ℕ → ℕ → State → State
+pushedBelow es kind zero s = s
+pushedBelow es kind (suc i) s = pushedAt es kind i (pushedBelow es kind i s)
+
+-- the layout at the next stage
+abbrev pub step : Layout → Layout
+step l = told (λ r. l) (doneTests l) (stepped l)
+
+-- the state after all shapes of a kind are pushed, at the next stage
+abbrev pub stage : List Entry → ℕ → State → State
+stage es kind s = act done (pushedBelow es kind (length es) s)
+
+-- the state after all pushes
+unfoldable pub laid : List Entry → State → State
+laid es s = stage es 3 (stage es 2 (stage es 1 s))
+
+-- ---- what a label names
+
+-- the record that declares the shape with a label
+abbrev pub shapeNo : List Entry → Label → ℕ
+shapeNo es l = lowestOr (length es) (labelled es 1 3 l)
+
+-- how many slots a shape of a kind has
+abbrev pub sizeBy : ℕ → ℕ
+sizeBy kind = byKind kind 1 2 2 3 6
+
+-- where the center of a circle or an arc stands among its slots
+abbrev pub centerBy : ℕ → ℕ
+centerBy kind = cond (eqb kind 3) 4 0
+
+-- where x or y stands in a pair
+abbrev pub axisAt : ℕ → ℕ
+axisAt third = cond (eqb third y-axis) 1 0
+
+-- a label ends in another
+abbrev pub endsIn : Label → Label → Bool
+endsIn l suffix = cond (ltb (length l) (length suffix)) false (same (drop (length l - length suffix) l) suffix)
+
+-- every slot of a shape
+abbrev pub wholeSpan : List Entry → Label → Span
+wholeSpan es l = record { shape = shapeNo es l; first = 0; count = sizeBy (kindNo es (shapeNo es l)) }
+
+-- x or y of a shape's center
+abbrev pub centerSpan : List Entry → ℕ → Label → Span
+centerSpan es third l = record { shape = shapeNo es l; first = centerBy (kindNo es (shapeNo es l)) + axisAt third; count = 1 }
+
+-- x or y of a point
+abbrev pub pointSpan : List Entry → ℕ → Label → Span
+pointSpan es third l = record { shape = shapeNo es l; first = axisAt third; count = 1 }
+
+-- x or y of a point, or of the center that a dotted label names
+abbrev pub partSpan : List Entry → ℕ → Label → Span
+partSpan es third l = cond (endsIn l (bytes ".center")) (centerSpan es third (take (length l - 7) l)) (pointSpan es third l)
+
+-- by the kind and the third byte of a rule
+unfoldable pub spanOf : List Entry → ℕ → ℕ → Label → Span
+spanOf es kind third l = byKind kind 4 18 (partSpan es third l) (centerSpan es third l) (wholeSpan es l)
+
+-- ---- ids
+
+-- no ids
+abbrev pub zeros6 : List ℕ
+zeros6 = 0 ∷ 0 ∷ 0 ∷ 0 ∷ 0 ∷ 0 ∷ []
+
+-- a point's ids, with zeros behind them
+abbrev pub pointSix : PointIds → List ℕ
+pointSix (PI.Found v) = v .x ∷ v .y ∷ 0 ∷ 0 ∷ 0 ∷ 0 ∷ []
+pointSix (PI.Refused r) = zeros6
+
+-- a circle's
+abbrev pub circleSix : CircleIds → List ℕ
+circleSix (CI.Found v) = v .center .x ∷ v .center .y ∷ v .radius ∷ 0 ∷ 0 ∷ 0 ∷ []
+circleSix (CI.Refused r) = zeros6
+
+-- an arc's
+abbrev pub arcSix : ArcIds → List ℕ
+arcSix (AI.Found v) = v .start .x ∷ v .start .y ∷ v .end .x ∷ v .end .y ∷ v .center .x ∷ v .center .y ∷ []
+arcSix (AI.Refused r) = zeros6
+
+-- the ids of a shape of a kind, by its number: an arc's from 2P + 3C on
+unfoldable pub sixOf : Layout → List ℕ → ℕ → ℕ → List ℕ
+sixOf l ids kind n = byKind kind 1 2 (pointSix (pointIds l ids n)) (circleSix (circleIds l ids n)) (arcSix (arcSlotIds l ids n))
+
+-- the number of entry i among those of its kind
+abbrev pub numberNo : List Entry → ℕ → ℕ
+numberNo es i = countBelow (kindNo es) (kindNo es i) (kindNo es i) i
+
+-- the ids of a span
+unfoldable pub spanIds : List Entry → Layout → List ℕ → Span → List ℕ
+spanIds es l ids s = take (s .count) (drop (s .first) (sixOf l ids (kindNo es (s .shape)) (numberNo es (s .shape))))
+
+-- the ids that a rule names by a label
+abbrev pub labelIds : List Entry → Layout → List ℕ → Entry → Label → List ℕ
+labelIds es l ids e label = spanIds es l ids (spanOf es (e .kind) (e .third) label)
+
+-- the ids that a rule names
+abbrev pub rowIds : List Entry → Layout → List ℕ → Entry → List ℕ
+rowIds es l ids e = flat (labelIds es l ids e) (e .labels)
+
+-- ---- rows
+
+-- the bytes of a row, by its eight ids
+unfoldable pub rowBytesOf : ℕ → ℕ → ℕ → List ℕ → ℕ → List ℕ
+rowBytesOf kind count third eight bits = rowMark ∷ kind ∷ count ∷ third ∷ (flat le32 eight ++ le64 bits)
+
+-- the bytes of the row of entry i
+unfoldable pub rowAt : List Entry → Layout → List ℕ → ℕ → List ℕ
+rowAt es l ids i =
+    let e = entryAt es i in
+    encodeRow (record { kind = e .kind; third = e .third; ids = rowIds es l ids e; bits = e .x })
+
+-- the bytes that entry i adds: those of its row, if it is a rule
+unfoldable pub rowIf : List Entry → Layout → List ℕ → ℕ → List ℕ
+rowIf es l ids i = cond (within 4 23 (kindNo es i)) (rowAt es l ids i) []
+
+-- the rows of the rules among the first n entries
+unfoldable pub rowsBelow : List Entry → Layout → List ℕ → ℕ → List ℕ
+rowsBelow es l ids zero = []
+rowsBelow es l ids (suc i) = rowsBelow es l ids i ++ rowIf es l ids i
+
+-- ---- what the steps ask, and give
+
+-- the declarations by their labels, and each entry's number among those of its kind
+pub record Tables (es : List Entry) (heads nexts numbers : List ℕ) : Type 0 where
+  pub chained : Chained es 1 3 heads nexts
+  pub long : length es ≤ length numbers
+  pub numbered : EachBelow (length es) (λ i. getD numbers i 0 ≡ numberNo es i)
+
+-- a label names a declared shape, and there is room for its ids behind the first m
+pub record Addable (es : List Entry) (l : Layout) (ids : List ℕ) (kind third : ℕ) (label : Label) (out : List ℕ) (m : ℕ) : Type 0 where
+  pub found : spanOf es kind third label .shape < length es
+  pub room : m + length (spanIds es l ids (spanOf es kind third label)) ≤ length out
+
+-- ids put behind the first m of a list, and how many there are then
+pub record Added (ids was : List ℕ) (m n : ℕ) (now : List ℕ) : Type 0 where
+  pub count-is : n ≡ m + length ids
+  pub list-is : now ≡ over was m ids
+
+-- entry i names declared shapes, and no more than eight ids
+pub record Sayable (es : List Entry) (l : Layout) (ids : List ℕ) (i : ℕ) : Type 0 where
+  pub inside : i < length es
+  pub found : EachBelow (length (entryAt es i .labels)) (λ q. spanOf es (kindNo es i) (entryAt es i .third) (labelNo (entryAt es i) q) .shape < length es)
+  pub fits : length (rowIds es l ids (entryAt es i)) ≤ mostIds
+
+-- how many ids there are, and a list that begins with them
+pub record Begins (ids was : List ℕ) (n : ℕ) (now : List ℕ) : Type 0 where
+  pub count-is : n ≡ length ids
+  pub list-is : now ≡ onto was ids
+
+-- entry i can be said, if it is a rule, and there is room for its row at a place
+pub record Writing (es : List Entry) (l : Layout) (ids : List ℕ) (i : ℕ) (rows : List ℕ) (at : ℕ) : Type 0 where
+  pub sayable : Rule (kindNo es i) → Sayable es l ids i
+  pub room : at + length (rowIf es l ids i) ≤ length rows
+
+-- its row is written, and the place is behind it
+pub record Wrote (es : List Entry) (l : Layout) (ids : List ℕ) (i : ℕ) (rows : List ℕ) (at then : ℕ) (rows′ : List ℕ) : Type 0 where
+  pub place : then ≡ at + length (rowIf es l ids i)
+  pub rows-are : rows′ ≡ written rows at (rowIf es l ids i)
+
+-- each rule can be said, and there is room for all rows
+pub record Writable (es : List Entry) (l : Layout) (ids rows : List ℕ) : Type 0 where
+  pub each : (i : ℕ) → i < length es → Rule (kindNo es i) → Sayable es l ids i
+  pub room : length (rowsBelow es l ids (length es)) ≤ length rows
+
+-- a layout and two slices are those of a state
+pub record Slotted (s : State) (l : Layout) (ids : List ℕ) (values : List Float) : Type 0 where
+  pub layout-is : l ≡ s .layout
+  pub ids-are : ids ≡ s .ids
+  pub values-are : values ≡ s .values
+
+-- a drawing that passes, with room for its slots and rows
+pub record Passing (es : List Entry) (next : ℕ) (ids : List ℕ) (values : List Float) (rows : List ℕ) : Type 0 where
+  pub passes : checkOf es ≡ passed
+  pub few : length es ≤ most
+  pub enough : Enough es (roomIn next ids values rows)
+
+-- its layout, ids, values and rows
+pub record Filled (es : List Entry) (next : ℕ) (ids : List ℕ) (values : List Float) (rows : List ℕ) (l : Layout) (ids′ : List ℕ) (values′ : List Float) (rows′ : List ℕ) : Type 0 where
+  pub layout-is : l ≡ layoutOf es
+  pub ids-are : ids′ ≡ onto ids (onward next (length (slots es)))
+  pub values-are : values′ ≡ onto values (valuesOf es)
+  pub rows-are : rows′ ≡ onto rows (encodeRows (rowsOf es next))
+
+-- 36, 37 or 38, by how many slots and rows there are, or 0
+abbrev pub lackTold : Room → ℕ → ℕ → ℕ
+lackTold room slots rows =
+    cond (ltb idsEnd (room .next + slots)) 36 (cond (ltb (room .ids) slots || ltb (room .values) slots) 37 (cond (ltb (room .row-bytes) (rows * rowBytes)) 38 0))

@@ -1,0 +1,106 @@
+// Lowering: a drawing that passes the check becomes slots with ids and starting values, and a row for each rule.
+mod row;
+mod shapes;
+mod spans;
+
+ghost use mathlib.Core.Path.{_≡_};
+ghost use Rattle.record.specs.Formed.{entries};
+ghost use Rattle.index.specs.Labels.{drawn};
+ghost use Rattle.lowering.specs.Lower.{Lowers, onto, roomBy};
+ghost use Rattle.lowering.specs.Slots.{layoutOf};
+ghost use Rattle.lowering.specs.Steps.{Passing, Filled, lackTold};
+use drawing::Checked;
+use drawing::check;
+use layout::Layout;
+use row::fill_rows;
+use shapes::fill_slots;
+
+// The length of a row.
+pub const ROW: usize = 44;
+
+// One past the largest id.
+const IDS_END: u32 = 4_294_967_295;
+
+// What lowering answers: the layout, the next id and how many rows there are, or a refusal.
+pub enum Lowered {
+    Good {
+        layout: Layout,
+        next: u32,
+        rows: usize,
+    },
+    Refused {
+        number: u8,
+        place: usize,
+    },
+}
+
+// 36, 37 or 38, whichever comes first, or 0.
+fn lack(next: u32, ids: usize, values: usize, room: usize, slots: usize, rows: usize) -> u8
+    ensures { λ r. ⌜ r ≡ lackTold (roomBy next ids values room) slots rows ⌝ }
+{
+    if ((IDS_END - next) as usize) < slots {
+        return 36;
+    }
+    if (ids < slots) | (values < slots) {
+        return 37;
+    }
+    if room / ROW < rows {
+        return 38;
+    }
+    0
+}
+
+// Fills the slots and the rows of a drawing that passes, with room for them.
+fn fill(
+    text: &[u8],
+    records: &[u8],
+    next: u32,
+    ids: &mut [u32],
+    values: &mut [f64],
+    rows: &mut [u8],
+) -> Layout
+    requires { ⌜ Passing (drawn (now text) (now records)) next (now ids) (now values) (now rows) ⌝ }
+    ensures { λ r. ⌜ Filled (drawn (now (text .entry)) (now (records .entry))) next (now (ids .entry)) (now (values .entry)) (now (rows .entry)) r (now (ids .exit)) (now (values .exit)) (now (rows .exit)) ⌝ }
+{
+    let l = fill_slots(text, records, next, ids, values);
+    fill_rows(text, records, l, ids, rows);
+    l
+}
+
+// Lowers a drawing from the next id: the check first, then 36, 37, 38, then slots and rows.
+pub fn lower(
+    text: &[u8],
+    records: &[u8],
+    next: u32,
+    ids: &mut [u32],
+    values: &mut [f64],
+    rows: &mut [u8],
+) -> Lowered
+    ensures { λ r. ⌜ Lowers (entries (now (text .entry)) (now (records .entry))) next (now (ids .entry)) (now (values .entry)) (now (rows .entry)) r (now (ids .exit)) (now (values .exit)) (now (rows .exit)) ⌝ }
+{
+    let checked = check(text, records);
+    match checked {
+        Checked::Refused { number, place } => Lowered::Refused { number, place },
+        Checked::Passed {
+            points,
+            circles,
+            arcs,
+            rows: count,
+        } => {
+            let slots = points * 2 + circles * 3 + arcs * 6;
+            let told = lack(next, ids.len(), values.len(), rows.len(), slots, count);
+            if told != 0 {
+                return Lowered::Refused {
+                    number: told,
+                    place: 0,
+                };
+            }
+            let layout = fill(text, records, next, ids, values, rows);
+            Lowered::Good {
+                layout,
+                next: next + (slots as u32),
+                rows: count,
+            }
+        }
+    }
+}

@@ -1,0 +1,309 @@
+// The rows: for each rule, in order, the ids of what its labels name.
+ghost use mathlib.Core.Path.{_≡_};
+ghost use Prim.Native.Nat.{_+_, _≤_, _<_};
+ghost use lib.ListN.{length, take, drop};
+ghost use Rattle.record.specs.Entry.{entryAt};
+ghost use Rattle.record.specs.Formed.{most};
+ghost use Rattle.index.specs.Labels.{drawn};
+ghost use Rattle.layout.specs.Push.{over};
+ghost use Rattle.lowering.specs.Rows.{mostIds};
+ghost use Rattle.lowering.specs.Lower.{onto};
+ghost use Rattle.lowering.specs.Steps.{pointSix, circleSix, arcSix, sixOf, Tables, spanOf, spanIds, Addable, Added, Sayable, Begins, rowIds, rowBytesOf, rowAt, Writing, Wrote, Writable, rowsBelow};
+use crate::spans::number;
+use crate::spans::span_of;
+use index::chain;
+use index::labels::kind_at;
+use index::labels::label_at;
+use layout::ArcIds;
+use layout::CircleIds;
+use layout::Layout;
+use layout::PointIds;
+use record::SIZE;
+use record::decode::decode_record;
+use store::put;
+
+// The first byte of a row's mark.
+const MARK: u8 = 82;
+
+// The kinds of rules.
+const FIRST_RULE: u8 = 4;
+
+const LAST_RULE: u8 = 23;
+
+// A point's ids, with zeros behind them.
+fn point_six(found: PointIds) -> [u32; 6]
+    ensures { λ r. ⌜ r ≡ pointSix found ⌝ }
+{
+    match found {
+        PointIds::Found(v) => [v.x, v.y, 0, 0, 0, 0],
+        PointIds::Refused(_) => [0, 0, 0, 0, 0, 0],
+    }
+}
+
+// A circle's ids, with zeros behind them.
+fn circle_six(found: CircleIds) -> [u32; 6]
+    ensures { λ r. ⌜ r ≡ circleSix found ⌝ }
+{
+    match found {
+        CircleIds::Found(v) => {
+            let center = v.center;
+            [center.x, center.y, v.radius, 0, 0, 0]
+        }
+        CircleIds::Refused(_) => [0, 0, 0, 0, 0, 0],
+    }
+}
+
+// An arc's ids.
+fn arc_six(found: ArcIds) -> [u32; 6]
+    ensures { λ r. ⌜ r ≡ arcSix found ⌝ }
+{
+    match found {
+        ArcIds::Found(v) => {
+            let start = v.start;
+            let end = v.end;
+            let center = v.center;
+            [start.x, start.y, end.x, end.y, center.x, center.y]
+        }
+        ArcIds::Refused(_) => [0, 0, 0, 0, 0, 0],
+    }
+}
+
+// The ids of a shape of a kind, by its number: an arc's after the points and the circles.
+fn six_of(l: Layout, ids: &[u32], kind: u8, number: usize) -> [u32; 6]
+    ensures { λ r. ⌜ r ≡ sixOf l (now (ids .entry)) kind number ⌝ }
+{
+    match kind {
+        1 => point_six(l.point_ids(ids, number)),
+        2 => circle_six(l.circle_ids(ids, number)),
+        _ => arc_six(l.arc_slot_ids(ids, number)),
+    }
+}
+
+// Puts some of six ids behind the first m of a row's.
+fn append(out: &mut [u32], m: usize, six: [u32; 6], first: usize, count: usize)
+    requires { ⌜ (m + count ≤ length (now out)) × (first + count ≤ 6) × (length six ≡ 6) ⌝ }
+    ensures { λ _. ⌜ now (out .exit) ≡ over (now (out .entry)) m (take count (drop first six)) ⌝ }
+{
+    let mut k = 0;
+    while k < count {
+        out[m + k] = six[first + k];
+        k += 1;
+    }
+}
+
+// A number of two bytes.
+fn wide(x: u16) -> usize
+    ensures { λ r. ⌜ r ≡ x ⌝ }
+{
+    x as usize
+}
+
+// Puts the ids that a rule of a kind, with its third byte, names by a label behind the first m, and tells how many they are then.
+fn add_label(
+    text: &[u8],
+    records: &[u8],
+    heads: &[u16],
+    nexts: &[u16],
+    numbers: &[u16],
+    l: Layout,
+    ids: &[u32],
+    kind: u8,
+    third: u8,
+    label: &[u8],
+    out: &mut [u32],
+    m: usize,
+) -> usize
+    requires { ⌜ Tables (drawn (now text) (now records)) (now heads) (now nexts) (now numbers) × Addable (drawn (now text) (now records)) l (now ids) kind third (now label) (now out) m ⌝ }
+    ensures { λ r. ⌜ Added (spanIds (drawn (now (text .entry)) (now (records .entry))) l (now (ids .entry)) (spanOf (drawn (now (text .entry)) (now (records .entry))) kind third (now (label .entry)))) (now (out .entry)) m r (now (out .exit)) ⌝ }
+{
+    let span = span_of(text, records, heads, nexts, kind, third, label);
+    let shape = span.shape;
+    let number = wide(numbers[shape]);
+    let six = six_of(l, ids, kind_at(records, shape), number);
+    append(out, m, six, span.first, span.count);
+    m + span.count
+}
+
+// Puts the ids that a rule names into a row's eight, and tells how many they are.
+fn row_ids(
+    text: &[u8],
+    records: &[u8],
+    heads: &[u16],
+    nexts: &[u16],
+    numbers: &[u16],
+    l: Layout,
+    ids: &[u32],
+    i: usize,
+    out: &mut [u32],
+) -> usize
+    requires { ⌜ Tables (drawn (now text) (now records)) (now heads) (now nexts) (now numbers) × Sayable (drawn (now text) (now records)) l (now ids) i × (length (now out) ≡ mostIds) ⌝ }
+    ensures { λ r. ⌜ Begins (rowIds (drawn (now (text .entry)) (now (records .entry))) l (now (ids .entry)) (entryAt (drawn (now (text .entry)) (now (records .entry))) i)) (now (out .entry)) r (now (out .exit)) ⌝ }
+{
+    let r = decode_record(records, i);
+    let kind = r.kind;
+    let third = r.third;
+    let n = r.count as usize;
+    let mut m = 0;
+    let mut q = 0;
+    while q < n {
+        let label = label_at(text, records, i, q);
+        m = add_label(
+            text,
+            records,
+            heads,
+            nexts,
+            numbers,
+            l,
+            ids,
+            kind,
+            third,
+            label,
+            out,
+            m,
+        );
+        q += 1;
+    }
+    m
+}
+
+// The bytes of a row, by its eight ids.
+fn encode_row(kind: u8, third: u8, count: usize, ids: [u32; 8], bits: u64) -> [u8; 44]
+    requires { ⌜ (length ids ≡ mostIds) × (count < 256) ⌝ }
+    ensures { λ r. ⌜ r ≡ rowBytesOf kind count third ids bits ⌝ }
+{
+    let a0 = ids[0];
+    let a1 = ids[1];
+    let a2 = ids[2];
+    let a3 = ids[3];
+    let a4 = ids[4];
+    let a5 = ids[5];
+    let a6 = ids[6];
+    let a7 = ids[7];
+    [
+        MARK,
+        kind,
+        count as u8,
+        third,
+        (a0 % 256) as u8,
+        ((a0 >> 8) % 256) as u8,
+        ((a0 >> 16) % 256) as u8,
+        ((a0 >> 24) % 256) as u8,
+        (a1 % 256) as u8,
+        ((a1 >> 8) % 256) as u8,
+        ((a1 >> 16) % 256) as u8,
+        ((a1 >> 24) % 256) as u8,
+        (a2 % 256) as u8,
+        ((a2 >> 8) % 256) as u8,
+        ((a2 >> 16) % 256) as u8,
+        ((a2 >> 24) % 256) as u8,
+        (a3 % 256) as u8,
+        ((a3 >> 8) % 256) as u8,
+        ((a3 >> 16) % 256) as u8,
+        ((a3 >> 24) % 256) as u8,
+        (a4 % 256) as u8,
+        ((a4 >> 8) % 256) as u8,
+        ((a4 >> 16) % 256) as u8,
+        ((a4 >> 24) % 256) as u8,
+        (a5 % 256) as u8,
+        ((a5 >> 8) % 256) as u8,
+        ((a5 >> 16) % 256) as u8,
+        ((a5 >> 24) % 256) as u8,
+        (a6 % 256) as u8,
+        ((a6 >> 8) % 256) as u8,
+        ((a6 >> 16) % 256) as u8,
+        ((a6 >> 24) % 256) as u8,
+        (a7 % 256) as u8,
+        ((a7 >> 8) % 256) as u8,
+        ((a7 >> 16) % 256) as u8,
+        ((a7 >> 24) % 256) as u8,
+        (bits % 256) as u8,
+        ((bits >> 8) % 256) as u8,
+        ((bits >> 16) % 256) as u8,
+        ((bits >> 24) % 256) as u8,
+        ((bits >> 32) % 256) as u8,
+        ((bits >> 40) % 256) as u8,
+        ((bits >> 48) % 256) as u8,
+        ((bits >> 56) % 256) as u8,
+    ]
+}
+
+// The row of rule i.
+fn row_at(
+    text: &[u8],
+    records: &[u8],
+    heads: &[u16],
+    nexts: &[u16],
+    numbers: &[u16],
+    l: Layout,
+    ids: &[u32],
+    i: usize,
+) -> [u8; 44]
+    requires { ⌜ Tables (drawn (now text) (now records)) (now heads) (now nexts) (now numbers) × Sayable (drawn (now text) (now records)) l (now ids) i ⌝ }
+    ensures { λ r. ⌜ r ≡ rowAt (drawn (now (text .entry)) (now (records .entry))) l (now (ids .entry)) i ⌝ }
+{
+    let mut out = [0u32; 8];
+    let m = row_ids(text, records, heads, nexts, numbers, l, ids, i, &mut out);
+    let r = decode_record(records, i);
+    encode_row(r.kind, r.third, m, out, r.x)
+}
+
+// Writes the row of record i, if it is a rule, at a place, and tells the place after it.
+fn write_row(
+    text: &[u8],
+    records: &[u8],
+    heads: &[u16],
+    nexts: &[u16],
+    numbers: &[u16],
+    l: Layout,
+    ids: &[u32],
+    i: usize,
+    rows: &mut [u8],
+    at: usize,
+) -> usize
+    requires { ⌜ Tables (drawn (now text) (now records)) (now heads) (now nexts) (now numbers) × Writing (drawn (now text) (now records)) l (now ids) i (now rows) at ⌝ }
+    ensures { λ r. ⌜ Wrote (drawn (now (text .entry)) (now (records .entry))) l (now (ids .entry)) i (now (rows .entry)) at r (now (rows .exit)) ⌝ }
+{
+    let kind = kind_at(records, i);
+    if (kind < FIRST_RULE) | (LAST_RULE < kind) {
+        return at;
+    }
+    let row = row_at(text, records, heads, nexts, numbers, l, ids, i);
+    put(rows, at, &row);
+    at + 44
+}
+
+// Writes the rows of all rules, in order.
+fn write_rows(
+    text: &[u8],
+    records: &[u8],
+    heads: &[u16],
+    nexts: &[u16],
+    numbers: &[u16],
+    l: Layout,
+    ids: &[u32],
+    rows: &mut [u8],
+)
+    requires { ⌜ Tables (drawn (now text) (now records)) (now heads) (now nexts) (now numbers) × Writable (drawn (now text) (now records)) l (now ids) (now rows) ⌝ }
+    ensures { λ _. ⌜ now (rows .exit) ≡ onto (now (rows .entry)) (rowsBelow (drawn (now (text .entry)) (now (records .entry))) l (now (ids .entry)) (length (drawn (now (text .entry)) (now (records .entry))))) ⌝ }
+{
+    let n = records.len() / SIZE;
+    let mut at = 0;
+    let mut i = 0;
+    while i < n {
+        at = write_row(text, records, heads, nexts, numbers, l, ids, i, rows, at);
+        i += 1;
+    }
+}
+
+// Writes the rows of a drawing by the ids of its layout.
+pub(crate) fn fill_rows(text: &[u8], records: &[u8], l: Layout, ids: &[u32], rows: &mut [u8])
+    requires { ⌜ (length (drawn (now text) (now records)) ≤ most) × Writable (drawn (now text) (now records)) l (now ids) (now rows) ⌝ }
+    ensures { λ _. ⌜ now (rows .exit) ≡ onto (now (rows .entry)) (rowsBelow (drawn (now (text .entry)) (now (records .entry))) l (now (ids .entry)) (length (drawn (now (text .entry)) (now (records .entry))))) ⌝ }
+{
+    let mut numbers = [0u16; 1800];
+    number(records, &mut numbers);
+    let mut heads = [0u16; 1024];
+    let mut nexts = [0u16; 1800];
+    chain(text, records, 1, 3, &mut heads, &mut nexts);
+    write_rows(text, records, &heads, &nexts, &numbers, l, ids, rows);
+}
