@@ -4,8 +4,9 @@
   sample.py ORACLE [FOLDER]   write FOLDER/stdin and FOLDER/stdout (crates/replay); ORACLE is the built program of oracle/
 
 The records, their order and the stop place come from the oracle; the model only puts point and scalar guesses back in the
-order of the text. The numbers and places of refusals come from the model, that is from document 01. It stops where the
-model and the oracle disagree, or where the sample lacks something.
+order of the text. The numbers and places of refusals come from the model, that is from document 01, and so do the answers
+to the drawings behind those texts, which the Rust doesn't check. It stops where the model and the oracle
+disagree, or where the sample lacks something.
 """
 import collections
 import os
@@ -13,6 +14,7 @@ import sys
 
 sys.dont_write_bytecode = True
 import compare
+import drawings
 import model
 import pages
 
@@ -26,6 +28,9 @@ SEARCHED = 40000
 READ_PAGES = 600
 OF_EACH_OUTCOME = 40
 SMALL_BETWEEN_LARGE = 40
+DRAWINGS = 300
+LEAST_PASSING = 100
+LEAST_OF_A_FAULT = 8
 
 
 def large():
@@ -110,6 +115,18 @@ def check(texts, answers, batch):
     print("records: " + ", ".join("%d of %d" % (count, n) for n, count in sorted(kinds.items())))
 
 
+def check_drawings(blocks):
+    """Stops where the drawings lack something."""
+    firsts = collections.Counter()
+    for _, answer in blocks:
+        words = answer.split(b" ")
+        firsts[int(words[1]) if words[0] == b"refused" else words[0]] += 1
+    assert firsts[b"passed"] >= LEAST_PASSING, firsts
+    assert all(firsts[n] >= LEAST_OF_A_FAULT for n in range(31, 36)), firsts
+    print("%d blocks of drawings: %d passed" % (len(blocks), firsts[b"passed"]))
+    print("refused: " + ", ".join("%d by %d" % (firsts[n], n) for n in sorted(n for n in firsts if type(n) is int)))
+
+
 def main():
     if len(sys.argv) not in (2, 3):
         sys.exit(__doc__.rstrip())
@@ -120,6 +137,10 @@ def main():
     answers = [due(whole, text, block) for (whole, text), block in zip(texts, told)]
     batch = b"".join(pages.entry(whole, text) for whole, text in texts)
     check(texts, answers, batch)
+    blocks = drawings.blocks(drawings.by_hand() + drawings.limits() + list(drawings.drawings(DRAWINGS)))
+    check_drawings(blocks)
+    batch += b"".join(block for block, _ in blocks)
+    answers += [answer for _, answer in blocks]
     for name, contents in [("stdin", batch), ("stdout", b"".join(answer + b".\n" for answer in answers))]:
         with open(os.path.join(folder, name), "wb") as file:
             file.write(contents)

@@ -1,7 +1,7 @@
-// The header line of a batch's block: how the text that follows is read, and its length.
+// The header line of a batch's block: what is asked of the text that follows, and its length.
 ghost use mathlib.Core.Path.{_≡_};
 ghost use Rattle.text.specs.Text.{starts};
-ghost use Rattle.batch.specs.Header.{oneMore, sizeOf, headerOf};
+ghost use Rattle.batch.specs.Header.{oneMore, digitsAt, sizeOf, headerOf};
 use text::Stand;
 
 // The most bytes of a text, and what stands for any number that is larger.
@@ -9,13 +9,13 @@ pub const MOST: usize = 65_536;
 
 const TOO_MANY: usize = 65_537;
 
-// Where the digits begin.
-const DIGITS_AT: usize = 5;
-
-// What a header line says: a text of so many bytes by the plain reading, by the whole reading, or nothing.
+// What a header line says: a text of so many bytes, to be listed by the plain reading or by the whole one, to be checked, to be
+// lowered; or nothing.
 pub enum Header {
     Case(usize),
     List(usize),
+    Check(usize),
+    Rows(usize),
     Bad,
 }
 
@@ -46,15 +46,26 @@ fn one_more(n: usize, b: u8) -> usize
     n * 10 + ((b - 48) as usize)
 }
 
+// Where the digits begin.
+fn digits_at(line: &[u8]) -> usize
+    ensures { λ r. ⌜ r ≡ digitsAt (now (line .entry)) ⌝ }
+{
+    if begins(line, b"CHECK ") {
+        return 6;
+    }
+    5
+}
+
 // The number that the digits of a line write.
 fn size_of(line: &[u8]) -> usize
     ensures { λ r. ⌜ r ≡ sizeOf (now (line .entry)) ⌝ }
 {
-    if line.len() <= DIGITS_AT {
+    let at = digits_at(line);
+    if line.len() <= at {
         return TOO_MANY;
     }
     let mut n = 0;
-    let mut i = DIGITS_AT;
+    let mut i = at;
     while i < line.len() {
         n = one_more(n, line[i]);
         i += 1;
@@ -75,6 +86,12 @@ pub fn read_header(line: &[u8]) -> Header
     }
     if begins(line, b"LIST ") {
         return Header::List(n);
+    }
+    if begins(line, b"CHECK ") {
+        return Header::Check(n);
+    }
+    if begins(line, b"ROWS ") {
+        return Header::Rows(n);
     }
     Header::Bad
 }

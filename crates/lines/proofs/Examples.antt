@@ -1,4 +1,4 @@
--- Document 01's example of a listing, line by line, and a line of each other form, by computation. Assumes nothing.
+-- Document 01's example of a listing, line by line, a line of each other form, and lines of a check, by computation. Assumes nothing.
 use mathlib.Core.Path.{_≡_, refl}
 use mathlib.Core.List.{List, [], _∷_, _++_}
 use Prim.Native.Nat.{ℕ}
@@ -7,7 +7,9 @@ use Rattle.ground.specs.Words.{bytes}
 use Rattle.print.specs.Print.{lastDigits, hexOf, widthUpTo, decimalOf}
 use Rattle.record.specs.Entry.{Entry}
 use Rattle.reader.specs.declared.Reading.the-variants.{Good, Refused}
+use Rattle.drawing.specs.declared.Checked.the-variants as C
 use Rattle.lines.specs.Lines.{newline, spaced, firstLine, lineOf}
+use Rattle.lines.specs.Drawn.{checkedLine}
 
 -- quoted labels
 abbrev pub texts : List String → List (List ℕ)
@@ -67,3 +69,9 @@ pub others :
     ∷ [])
 unfolding firstLine lineOf spaced decimalOf hexOf lastDigits widthUpTo
 others = refl
+
+pub checks :
+    lines (checkedLine (C.Passed 2 1 1 11) ∷ checkedLine (C.Refused 32 1) ∷ [])
+    ≡ quoted ("passed points 2 circles 1 arcs 1 rows 11" ∷ "refused 32 1" ∷ [])
+unfolding checkedLine spaced decimalOf lastDigits widthUpTo
+checks = refl

@@ -2,3 +2,4 @@ pub mod Added
 pub mod Examples
 pub mod Only
 pub mod Spaced
+pub mod Telling

@@ -11,6 +11,8 @@ use Rattle.lines.proofs.first_line.Kinds as first-line-kinds
 use Rattle.lines.proofs.first_line.Reads as first-line
 use Rattle.lines.proofs.record_line.Kinds as record-line-kinds
 use Rattle.lines.proofs.record_line.Reads as record-line
+use Rattle.lines.proofs.checked_line.Kinds as checked-line-kinds
+use Rattle.lines.proofs.checked_line.Reads as checked-line
 
 -- two answers, and two buffers
 module _ {line d v w : List ℕ} {at : ℕ} {x y : Place} (p : Prints line d at x v) (q : Prints line d at y w) where
@@ -25,3 +27,6 @@ first-line-only κs a x y v w p q = (same-answer p q, λ j. (tt, (same-buffer p 
 
 pub record-line-only : Settled (endedOf 3 record-line-kinds.ps record-line-kinds.r) record-line.Post
 record-line-only κs a x y v w p q = (same-answer p q, λ j. (tt, (tt, (tt, (same-buffer p q j, (tt, tt))))))
+
+pub checked-line-only : Settled (endedOf 1 checked-line-kinds.ps checked-line-kinds.r) checked-line.Post
+checked-line-only κs a x y v w p q = (same-answer p q, λ j. (tt, (same-buffer p q j, (tt, tt))))

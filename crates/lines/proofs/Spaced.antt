@@ -85,7 +85,7 @@ label-more a f q = rw (up-to-more q f, spaced-append (upTo q f) (f q ∷ []), ap
 three-parts : (w : List ℕ) (a b c : List (List ℕ)) (end : List ℕ) → w ++ spaced a ++ spaced b ++ spaced c ++ end ≡ w ++ spaced (a ++ b ++ c) ++ end
 three-parts w a b c end = simp (spaced-append, append-assoc)
 
-two-parts : (w : List ℕ) (a b : List (List ℕ)) (end : List ℕ) → w ++ spaced a ++ spaced b ++ end ≡ w ++ spaced (a ++ b) ++ end
+pub two-parts : (w : List ℕ) (a b : List (List ℕ)) (end : List ℕ) → w ++ spaced a ++ spaced b ++ end ≡ w ++ spaced (a ++ b) ++ end
 two-parts w a b end = simp (spaced-append, append-assoc)
 
 pub good-is : (i g e : ℕ)
@@ -120,7 +120,7 @@ module _ (kind third x y : ℕ) (k : Kind) (e : k ≡ kindAt kind) where
       (sym (append-assoc (spaced (thirdWord (k .number) third ∷ [])) (spaced (numbersOf (k .number) x y)) newline) ∙ two-parts [] (thirdWord (k .number) third ∷ []) (numbersOf (k .number) x y) newline)
 
 -- a record's line, from its opening and from the third byte's word on
-line-parts : (w : List ℕ) (a b c : List (List ℕ)) (end : List ℕ) → (w ++ spaced a) ++ (spaced (b ++ c) ++ end) ≡ w ++ spaced (a ++ b ++ c) ++ end
+pub line-parts : (w : List ℕ) (a b c : List (List ℕ)) (end : List ℕ) → (w ++ spaced a) ++ (spaced (b ++ c) ++ end) ≡ w ++ spaced (a ++ b ++ c) ++ end
 line-parts w a b c end = simp (spaced-append, append-assoc)
 
 pub line-is : (text : List ℕ) (r : Record)

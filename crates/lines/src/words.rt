@@ -28,7 +28,7 @@ struct Part {
 }
 
 // Adds a word and a number.
-fn counted(name: &[u8], n: u64, buf: &mut [u8], write: bool, p: Place) -> Place
+pub(crate) fn counted(name: &[u8], n: u64, buf: &mut [u8], write: bool, p: Place) -> Place
     ensures { λ r. ⌜ Adds write (now (buf .entry)) p (spaced (now (name .entry) ∷ decimalOf n ∷ [])) r (now (buf .exit)) ⌝ }
 {
     let p = rail::word(buf, write, p, name);
@@ -54,7 +54,7 @@ fn good_line(
 }
 
 // The line of a refusal.
-fn refused_line(number: u8, place: usize, buf: &mut [u8], write: bool, p: Place) -> Place
+pub(crate) fn refused_line(number: u8, place: usize, buf: &mut [u8], write: bool, p: Place) -> Place
     ensures { λ r. ⌜ Adds write (now (buf .entry)) p (refusedLine number place) r (now (buf .exit)) ⌝ }
 {
     let p = rail::add(buf, write, p, b"refused");
@@ -178,15 +178,23 @@ fn from_numbers(number: u8, x: u64, y: u64, buf: &mut [u8], write: bool, p: Plac
 }
 
 // Adds the line from the third byte's word on.
-fn from_third(r: Record, buf: &mut [u8], write: bool, p: Place) -> Place
-    ensures { λ n. ⌜ Adds write (now (buf .entry)) p (spaced (thirdOf (r .kind) (r .third) ++ numbersOf (kindAt (r .kind) .number) (r .x) (r .y)) ++ newline) n (now (buf .exit)) ⌝ }
+pub(crate) fn from_third(
+    kind: u8,
+    third: u8,
+    x: u64,
+    y: u64,
+    buf: &mut [u8],
+    write: bool,
+    p: Place,
+) -> Place
+    ensures { λ n. ⌜ Adds write (now (buf .entry)) p (spaced (thirdOf kind third ++ numbersOf (kindAt kind .number) x y) ++ newline) n (now (buf .exit)) ⌝ }
 {
-    let k = kinds::kind_of(r.kind);
+    let k = kinds::kind_of(kind);
     if k.thirds == 0 {
-        return from_numbers(k.number, r.x, r.y, buf, write, p);
+        return from_numbers(k.number, x, y, buf, write, p);
     }
-    let p = third_word(k.number, r.third, buf, write, p);
-    from_numbers(k.number, r.x, r.y, buf, write, p)
+    let p = third_word(k.number, third, buf, write, p);
+    from_numbers(k.number, x, y, buf, write, p)
 }
 
 // Adds a record's line.
@@ -194,5 +202,5 @@ pub(crate) fn line(text: &[u8], r: Record, buf: &mut [u8], write: bool, p: Place
     ensures { λ n. ⌜ Adds write (now (buf .entry)) p (lineOf (entryOf (now (text .entry)) r)) n (now (buf .exit)) ⌝ }
 {
     let p = opening(text, r, buf, write, p);
-    from_third(r, buf, write, p)
+    from_third(r.kind, r.third, r.x, r.y, buf, write, p)
 }

@@ -1,8 +1,9 @@
-// Answers a batch on standard input: for each block the listing of its text and a line `.`; a batch that breaks the form ends with
-// the line `bad batch`.
+// Answers a batch on standard input: for each block what is asked of its text, and a line `.`; a batch that breaks the form ends
+// with the line `bad batch`.
 use batch::Header;
 use libc::STDIN_FILENO;
 use libc::STDOUT_FILENO;
+use show::Way;
 ghost use Prim.Native.Nat.{_≤_};
 ghost use lib.ListN.{length};
 
@@ -79,7 +80,7 @@ fn line_ends() -> bool {
 }
 
 // Answers a text of n bytes, which follows on the input with a new line; tells whether to go on.
-fn answer(text: &mut [u8], n: usize, whole: bool) -> bool {
+fn answer(text: &mut [u8], n: usize, way: Way) -> bool {
     if text.len() < n {
         return bad();
     }
@@ -89,15 +90,17 @@ fn answer(text: &mut [u8], n: usize, whole: bool) -> bool {
     if !line_ends() {
         return bad();
     }
-    show::show(&text[..n], whole);
+    show::show(&text[..n], way);
     io::write_all(STDOUT_FILENO, b".\n")
 }
 
 // Answers a block by its header.
 fn by_header(h: Header, text: &mut [u8]) -> bool {
     match h {
-        Header::Case(n) => answer(text, n, false),
-        Header::List(n) => answer(text, n, true),
+        Header::Case(n) => answer(text, n, Way::Plain),
+        Header::List(n) => answer(text, n, Way::Whole),
+        Header::Check(n) => answer(text, n, Way::Check),
+        Header::Rows(_) => bad(),
         Header::Bad => bad(),
     }
 }

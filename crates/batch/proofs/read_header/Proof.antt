@@ -19,7 +19,15 @@ returns-3 c = rw (← c .before .before .before .before .before .before .before 
 
 returns-4 : tie.Need-returns-4
 unfolding headerOf
-returns-4 c = rw (← c .before .before .before .before .before .before .before .size-of .ensures, le-ltb _ _ (c .before .before .before .before .before .before .if1 .left), ← c .before .before .before .before .begins .ensures, c .before .before .before .if2 .left, ← c .before .begins2 .ensures, c .if3 .left)
+returns-4 c = rw (← c .before .before .before .before .before .before .before .before .before .before .size-of .ensures, le-ltb _ _ (c .before .before .before .before .before .before .before .before .before .if1 .left), ← c .before .before .before .before .before .before .before .begins .ensures, c .before .before .before .before .before .before .if2 .left, ← c .before .before .before .before .begins2 .ensures, c .before .before .before .if3 .left, ← c .before .begins3 .ensures, c .if4 .taken)
+
+returns-5 : tie.Need-returns-5
+unfolding headerOf
+returns-5 c = rw (← c .before .before .before .before .before .before .before .before .before .before .before .before .before .size-of .ensures, le-ltb _ _ (c .before .before .before .before .before .before .before .before .before .before .before .before .if1 .left), ← c .before .before .before .before .before .before .before .before .before .before .begins .ensures, c .before .before .before .before .before .before .before .before .before .if2 .left, ← c .before .before .before .before .before .before .before .begins2 .ensures, c .before .before .before .before .before .before .if3 .left, ← c .before .before .before .before .begins3 .ensures, c .before .before .before .if4 .left, ← c .before .begins4 .ensures, c .if5 .taken)
+
+returns-6 : tie.Need-returns-6
+unfolding headerOf
+returns-6 c = rw (← c .before .before .before .before .before .before .before .before .before .before .before .before .before .size-of .ensures, le-ltb _ _ (c .before .before .before .before .before .before .before .before .before .before .before .before .if1 .left), ← c .before .before .before .before .before .before .before .before .before .before .begins .ensures, c .before .before .before .before .before .before .before .before .before .if2 .left, ← c .before .before .before .before .before .before .before .begins2 .ensures, c .before .before .before .before .before .before .if3 .left, ← c .before .before .before .before .begins3 .ensures, c .before .before .before .if4 .left, ← c .before .begins4 .ensures, c .if5 .left)
 
 pub read-header-spec : {M : Type 1} → statement M
-read-header-spec = tie.close (tie.spec (λ c κs. search needs) returns (λ c. search needs) (λ c κs. search needs) returns-2 (λ c. search needs) (λ c κs. search needs) returns-3 returns-4)
+read-header-spec = tie.close (tie.spec (λ c κs. search needs) returns (λ c. search needs) (λ c κs. search needs) returns-2 (λ c. search needs) (λ c κs. search needs) returns-3 (λ c. search needs) (λ c κs. search needs) returns-4 (λ c. search needs) (λ c κs. search needs) returns-5 returns-6)

@@ -12,27 +12,27 @@ use Rattle.batch.proofs.size_of.Statement.{statement}
 use Rattle.batch.proofs.size_of.Tie as tie
 
 abbrev Inv-loop : tie.InvT-loop
-Inv-loop line n₀ i₀ n i = sizeOf line ≡ sizeAfter n (drop i line)
+Inv-loop line at n₀ i₀ n i = sizeOf line ≡ sizeAfter n (drop i line)
 
 abbrev μ-loop : tie.MeasureT-loop
-μ-loop line n₀ i₀ n i = length line - i
+μ-loop line at n₀ i₀ n i = length line - i
 
 returns : tie.Need-returns Inv-loop μ-loop
 unfolding sizeOf
-returns c = rw (le-leb _ _ (c .if1 .taken))
+returns c = rw (← c .before .digits-at .ensures, le-leb _ _ (c .if1 .taken))
 
 loop-holds : tie.Need-loop-holds Inv-loop μ-loop
 unfolding sizeOf
-loop-holds c = rw (lt-leb _ _ (c .if1 .left))
+loop-holds c = rw (← c .before .digits-at .ensures, lt-leb _ _ (c .if1 .left))
 
 loop-again : tie.Need-loop-again Inv-loop μ-loop
 loop-again c =
-    let l = c .before .before .before .loop in l .inv ∙ size-more (c .before .before .before .before .before .before .args .line .now) (l .n) (l .i) (omega arith) ∙ rw (c .one-more .ensures)
+    let l = c .before .before .before .loop in l .inv ∙ size-more (c .before .before .before .before .before .before .before .args .line .now) (l .n) (l .i) (omega arith) ∙ rw (c .one-more .ensures)
 
 returns-2 : tie.Need-returns-2 Inv-loop μ-loop
 returns-2 c =
     let l = c .before .loop in
-    sym (l .inv ∙ size-end (c .before .before .before .before .args .line .now) (l .n) (l .i) (omega arith))
+    sym (l .inv ∙ size-end (c .before .before .before .before .before .args .line .now) (l .n) (l .i) (omega arith))
 
 pub size-of-spec : {M : Type 1} → statement M
-size-of-spec = tie.close (tie.spec Inv-loop μ-loop returns loop-holds (λ c. search needs) (λ c κs. search needs) (λ c. omega arith) (λ c. omega arith) loop-again returns-2)
+size-of-spec = tie.close (tie.spec Inv-loop μ-loop (λ c κs. search needs) returns loop-holds (λ c. search needs) (λ c κs. search needs) (λ c. omega arith) (λ c. omega arith) loop-again returns-2)

@@ -8,12 +8,12 @@ use Rattle.lines.proofs.words.from_third.Tie as tie
 returns : tie.Need-returns
 returns c =
     let a = c .before .before .before .before .before .before .before .before .args in
-    said (c .before .before .from-numbers .ensures) (no-third (a .r .kind) (a .r .third) (a .r .x) (a .r .y) _ (c .before .before .before .before .before .before .kind-of .ensures) (c .before .before .before .before .if1 .taken))
+    said (c .before .before .from-numbers .ensures) (no-third (a .kind) (a .third) (a .x) (a .y) _ (c .before .before .before .before .before .before .kind-of .ensures) (c .before .before .before .before .if1 .taken))
 
 returns-2 : tie.Need-returns-2
 returns-2 c =
     let a = c .before .before .before .before .before .before .before .before .before .before .before .before .args in
-    said (both (c .before .before .before .before .before .before .third-word .ensures) (c .before .before .from-numbers2 .ensures)) (some-third (a .r .kind) (a .r .third) (a .r .x) (a .r .y) _ (c .before .before .before .before .before .before .before .before .before .before .kind-of .ensures) (c .before .before .before .before .before .before .before .before .if1 .left))
+    said (both (c .before .before .before .before .before .before .third-word .ensures) (c .before .before .from-numbers2 .ensures)) (some-third (a .kind) (a .third) (a .x) (a .y) _ (c .before .before .before .before .before .before .before .before .before .before .kind-of .ensures) (c .before .before .before .before .before .before .before .before .if1 .left))
 
 pub from-third-spec : {M : Type 1} → statement M
 from-third-spec = tie.close (tie.spec (λ c κs. search needs) (λ c κs. search needs) (λ c. search needs) returns (λ c κs. search needs) (λ c κs. search needs) (λ c. search needs) returns-2)

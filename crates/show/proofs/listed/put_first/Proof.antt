@@ -1,8 +1,8 @@
--- `show::put_first` meets its contract: a line that was put ends in the buffer. Assumes nothing.
+-- `show::listed::put_first` meets its contract: a line that was put ends in the buffer. Assumes nothing.
 use borrow.Author.Needs.{needs}
 use Rattle.lines.proofs.Added.{inside}
-use Rattle.show.proofs.put_first.Statement.{statement}
-use Rattle.show.proofs.put_first.Tie as tie
+use Rattle.show.proofs.listed.put_first.Statement.{statement}
+use Rattle.show.proofs.listed.put_first.Tie as tie
 
 returns : tie.Need-returns
 returns c = inside _ (c .before .before .before .before .before .first-line .ensures) (c .before .n .given .1)

@@ -1,10 +1,10 @@
--- `show::put_line` meets its contract: a line that was put ends in the buffer. Assumes nothing.
+-- `show::listed::put_line` meets its contract: a line that was put ends in the buffer. Assumes nothing.
 use mathlib.Core.Path.{sym}
 use lib.Seq.{length-take-le}
 use borrow.Author.Needs.{needs}
 use Rattle.lines.proofs.Added.{inside}
-use Rattle.show.proofs.put_line.Statement.{statement}
-use Rattle.show.proofs.put_line.Tie as tie
+use Rattle.show.proofs.listed.put_line.Statement.{statement}
+use Rattle.show.proofs.listed.put_line.Tie as tie
 
 slice-aggregate-write-all : tie.Need-slice-aggregate-write-all
 slice-aggregate-write-all c = sym (length-take-le _ _ (search needs))

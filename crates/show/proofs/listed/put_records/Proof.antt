@@ -1,12 +1,12 @@
--- `show::put_records` meets its contract. The loop's invariant: the place lies in the buffer, which keeps its length.
+-- `show::listed::put_records` meets its contract. The loop's invariant: the place lies in the buffer, which keeps its length.
 -- The measure is the count of records left. Assumes nothing.
 use mathlib.Core.Path.{_≡_, refl, _∙_}
 use Prim.Native.Nat.{_-_, _≤_}
 use native.Mathlib.Omega.{arith}
 use lib.ListN.{length}
 use borrow.Author.Needs.{needs}
-use Rattle.show.proofs.put_records.Statement.{statement}
-use Rattle.show.proofs.put_records.Tie as tie
+use Rattle.show.proofs.listed.put_records.Statement.{statement}
+use Rattle.show.proofs.listed.put_records.Tie as tie
 
 abbrev Inv-loop : tie.InvT-loop
 Inv-loop text records count out₀ at n₀ i₀ out n i = (n ≤ length out) × (length out ≡ length out₀)
