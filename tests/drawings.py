@@ -1,8 +1,8 @@
 #!/usr/bin/env python3
-"""Drawings for the check: passing ones, damaged ones, and those at the limits, the same bytes every time.
+"""Drawings for the check and the lowering: passing ones, damaged ones, and those at the limits, the same bytes every time.
 
   drawings.py REPLAY [COUNT]   hold REPLAY, a command that answers batches (for instance "./desk replay"), against the
-                               model (drawing.py) on COUNT drawings (10,000), each asked CHECK
+                               model (drawing.py) on COUNT drawings (10,000), each asked CHECK and ROWS
 
 The exit status is 1 where anything differs.
 """
@@ -181,7 +181,8 @@ def limits():
 
 def answers(text):
     """What is due to a text under each header."""
-    return [(b"CHECK", drawing.check(model.read(text, True)))]
+    answer = model.read(text, True)
+    return [(b"CHECK", drawing.check(answer)), (b"ROWS", drawing.rows(answer))]
 
 
 def blocks(texts):

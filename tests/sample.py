@@ -5,7 +5,7 @@
 
 The records, their order and the stop place come from the oracle; the model only puts point and scalar guesses back in the
 order of the text. The numbers and places of refusals come from the model, that is from document 01, and so do the answers
-to the drawings behind those texts, which the Rust doesn't check. It stops where the model and the oracle
+to the drawings behind those texts, which the Rust doesn't check or lower. It stops where the model and the oracle
 disagree, or where the sample lacks something.
 """
 import collections
@@ -30,7 +30,8 @@ OF_EACH_OUTCOME = 40
 SMALL_BETWEEN_LARGE = 40
 DRAWINGS = 300
 LEAST_PASSING = 100
-LEAST_OF_A_FAULT = 8
+LEAST_OF_A_FAULT = 16
+LEAST_OF_A_ROW = 10
 
 
 def large():
@@ -117,14 +118,17 @@ def check(texts, answers, batch):
 
 def check_drawings(blocks):
     """Stops where the drawings lack something."""
-    firsts = collections.Counter()
+    firsts, rows = collections.Counter(), collections.Counter()
     for _, answer in blocks:
-        words = answer.split(b" ")
-        firsts[int(words[1]) if words[0] == b"refused" else words[0]] += 1
-    assert firsts[b"passed"] >= LEAST_PASSING, firsts
+        words = [line.split(b" ") for line in answer.splitlines()]
+        firsts[int(words[0][1]) if words[0][0] == b"refused" else words[0][0]] += 1
+        rows.update(int(line[1]) for line in words if line[0] == b"row")
+    assert firsts[b"passed"] == firsts[b"lowered"] >= LEAST_PASSING, firsts
     assert all(firsts[n] >= LEAST_OF_A_FAULT for n in range(31, 36)), firsts
-    print("%d blocks of drawings: %d passed" % (len(blocks), firsts[b"passed"]))
+    assert all(rows[n] >= LEAST_OF_A_ROW for n in range(4, 24)), rows
+    print("%d blocks of drawings: %d passed, %d lowered" % (len(blocks), firsts[b"passed"], firsts[b"lowered"]))
     print("refused: " + ", ".join("%d by %d" % (firsts[n], n) for n in sorted(n for n in firsts if type(n) is int)))
+    print("rows: " + ", ".join("%d of %d" % (count, n) for n, count in sorted(rows.items())))
 
 
 def main():

@@ -1,5 +1,6 @@
 pub mod Added
 pub mod Examples
 pub mod Only
+pub mod RowBack
 pub mod Spaced
 pub mod Telling

@@ -13,6 +13,12 @@ use Rattle.lines.proofs.record_line.Kinds as record-line-kinds
 use Rattle.lines.proofs.record_line.Reads as record-line
 use Rattle.lines.proofs.checked_line.Kinds as checked-line-kinds
 use Rattle.lines.proofs.checked_line.Reads as checked-line
+use Rattle.lines.proofs.lowered_line.Kinds as lowered-line-kinds
+use Rattle.lines.proofs.lowered_line.Reads as lowered-line
+use Rattle.lines.proofs.slot_line.Kinds as slot-line-kinds
+use Rattle.lines.proofs.slot_line.Reads as slot-line
+use Rattle.lines.proofs.row_line.Kinds as row-line-kinds
+use Rattle.lines.proofs.row_line.Reads as row-line
 
 -- two answers, and two buffers
 module _ {line d v w : List ℕ} {at : ℕ} {x y : Place} (p : Prints line d at x v) (q : Prints line d at y w) where
@@ -30,3 +36,12 @@ record-line-only κs a x y v w p q = (same-answer p q, λ j. (tt, (tt, (tt, (sam
 
 pub checked-line-only : Settled (endedOf 1 checked-line-kinds.ps checked-line-kinds.r) checked-line.Post
 checked-line-only κs a x y v w p q = (same-answer p q, λ j. (tt, (same-buffer p q j, (tt, tt))))
+
+pub lowered-line-only : Settled (endedOf 1 lowered-line-kinds.ps lowered-line-kinds.r) lowered-line.Post
+lowered-line-only κs a x y v w p q = (same-answer p q, λ j. (tt, (same-buffer p q j, (tt, tt))))
+
+pub slot-line-only : Settled (endedOf 1 slot-line-kinds.ps slot-line-kinds.r) slot-line.Post
+slot-line-only κs a x y v w p q = (same-answer p q, λ j. (tt, (tt, (same-buffer p q j, (tt, tt)))))
+
+pub row-line-only : Settled (endedOf 2 row-line-kinds.ps row-line-kinds.r) row-line.Post
+row-line-only κs a x y v w p q = (same-answer p q, λ j. (tt, (tt, (same-buffer p q j, (tt, tt)))))

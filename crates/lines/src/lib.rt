@@ -1,14 +1,19 @@
-// The lines that programs print, written into a lent buffer from a place on: those of a listing and of a check.
+// The lines that programs print, written into a lent buffer from a place on: those of a listing, of a check and of a lowering.
 mod drawn;
 mod rail;
 mod words;
 
+ghost use mathlib.Core.Path.{_≡_};
+ghost use lib.ListN.{length};
 ghost use Rattle.record.specs.Decode.{decodeAt};
 ghost use Rattle.record.specs.Entry.{entryOf};
 ghost use Rattle.lines.specs.Lines.{firstLine, lineOf};
-ghost use Rattle.lines.specs.Drawn.{checkedLine};
+ghost use Rattle.lowering.specs.Rows.{rowBytes};
+ghost use Rattle.lines.specs.Drawn.{checkedLine, loweredLine, slotLine, decodeRow, rowOf, rowLine};
 ghost use Rattle.lines.specs.Rail.{Prints};
 use drawing::Checked;
+use lowering::Lowered;
+use lowering::ROW;
 use reader::Reading;
 
 // Where writing stands: the place of the next byte, or full, where there was no room.
@@ -49,4 +54,51 @@ pub fn checked_line(checked: Checked, buf: &mut [u8], at: usize) -> Place
         return m;
     };
     drawn::checked(checked, buf, true, Place::At(at))
+}
+
+// Writes the line of what lowering told; where it has no room, the buffer stays as it was.
+pub fn lowered_line(lowered: Lowered, buf: &mut [u8], at: usize) -> Place
+    ensures { λ r. ⌜ Prints (loweredLine lowered) (now (buf .entry)) at r (now (buf .exit)) ⌝ }
+{
+    let m = drawn::lowered(lowered, buf, false, Place::At(at));
+    let Place::At(_) = m else {
+        return m;
+    };
+    drawn::lowered(lowered, buf, true, Place::At(at))
+}
+
+// Writes the line of a slot; where it has no room, the buffer stays as it was.
+pub fn slot_line(id: u32, value: f64, buf: &mut [u8], at: usize) -> Place
+    ensures { λ r. ⌜ Prints (slotLine id value) (now (buf .entry)) at r (now (buf .exit)) ⌝ }
+{
+    let m = drawn::slot(id, value, buf, false, Place::At(at));
+    let Place::At(_) = m else {
+        return m;
+    };
+    drawn::slot(id, value, buf, true, Place::At(at))
+}
+
+// Writes the line of a row from its bytes; where it has no room, the buffer stays as it was.
+fn line_of(b: &[u8], buf: &mut [u8], at: usize) -> Place
+    requires { ⌜ length (now b) ≡ rowBytes ⌝ }
+    ensures { λ r. ⌜ Prints (rowLine (decodeRow (now (b .entry)))) (now (buf .entry)) at r (now (buf .exit)) ⌝ }
+{
+    let m = drawn::row(b, buf, false, Place::At(at));
+    let Place::At(_) = m else {
+        return m;
+    };
+    drawn::row(b, buf, true, Place::At(at))
+}
+
+// Writes the line of row k of a list, and of a row of zeros past the last; where it has no room, the buffer stays as it was.
+pub fn row_line(rows: &[u8], k: usize, buf: &mut [u8], at: usize) -> Place
+    ensures { λ r. ⌜ Prints (rowLine (decodeRow (rowOf (now (rows .entry)) k))) (now (buf .entry)) at r (now (buf .exit)) ⌝ }
+{
+    if rows.len() / ROW <= k {
+        let none = [0u8; ROW];
+        return line_of(&none, buf, at);
+    }
+    let start = k * ROW;
+    let end = start + ROW;
+    line_of(&rows[start..end], buf, at)
 }

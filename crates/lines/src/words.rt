@@ -13,7 +13,6 @@ use super::rail;
 use reader::Reading;
 use record::Record;
 use record::kinds;
-use record::kinds::Kind;
 
 // The first of the words that a third byte may stand for.
 const FIRST: u8 = 1;

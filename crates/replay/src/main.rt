@@ -100,7 +100,7 @@ fn by_header(h: Header, text: &mut [u8]) -> bool {
         Header::Case(n) => answer(text, n, Way::Plain),
         Header::List(n) => answer(text, n, Way::Whole),
         Header::Check(n) => answer(text, n, Way::Check),
-        Header::Rows(_) => bad(),
+        Header::Rows(n) => answer(text, n, Way::Rows),
         Header::Bad => bad(),
     }
 }

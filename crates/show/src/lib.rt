@@ -1,4 +1,4 @@
-// Prints what is asked of a page: its listing, or whether its drawing passes the check. The lines are made by
+// Prints what is asked of a page: its listing, whether its drawing passes the check, or its slots and rows. The lines are made by
 // the crate `lines`, and written to standard output by way of a buffer. Nothing is lent for change and nothing answered; what is
 // printed is promised by the functions called.
 mod drawn;
@@ -10,11 +10,12 @@ ghost use lib.ListN.{length};
 // Room for the records of a page: 1,800 of 28 bytes.
 const ROOM: usize = 50_400;
 
-// What is asked: the listing by the plain reading or by the whole one, or the check.
+// What is asked: the listing by the plain reading or by the whole one, the check, or the slots and rows.
 pub enum Way {
     Plain,
     Whole,
     Check,
+    Rows,
 }
 
 fn room() -> [u8; ROOM]
@@ -31,5 +32,6 @@ pub fn show(text: &[u8], way: Way) {
         Way::Plain => listed::plain(text, &mut records, &mut out),
         Way::Whole => listed::whole(text, &mut records, &mut out),
         Way::Check => drawn::check(text, &mut records, &mut out),
+        Way::Rows => drawn::rows(text, &mut records, &mut out),
     }
 }

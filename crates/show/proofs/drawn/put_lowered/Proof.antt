@@ -1,0 +1,11 @@
+-- `show::drawn::put_lowered` meets its contract: a line that was put ends in the buffer. Assumes nothing.
+use borrow.Author.Needs.{needs}
+use Rattle.lines.proofs.Added.{inside}
+use Rattle.show.proofs.drawn.put_lowered.Statement.{statement}
+use Rattle.show.proofs.drawn.put_lowered.Tie as tie
+
+returns : tie.Need-returns
+returns c = inside _ (c .before .before .before .before .before .lowered-line .ensures) (c .before .n .given .1)
+
+pub put-lowered-spec : {M : Type 1} → statement M
+put-lowered-spec = tie.close (tie.spec (λ c κs. search needs) (λ c. search needs) (λ c. search needs) (λ c. search needs) returns (λ c. search needs) (λ c. search needs))
