@@ -1,18 +1,23 @@
-// The kinds of records that the check tells apart.
+// The kinds of records that check and lowering tell apart.
 
 // The declarations.
-pub(crate) const NEW_POINT: u8 = 1;
+pub const NEW_POINT: u8 = 1;
 
-pub(crate) const NEW_CIRCLE: u8 = 2;
+pub const NEW_CIRCLE: u8 = 2;
 
-pub(crate) const NEW_ARC: u8 = 3;
+pub const NEW_ARC: u8 = 3;
+
+// The rules that name one component: of a part, and of a shape's center.
+pub const FIX_COMPONENT: u8 = 4;
+
+pub const FIX_CENTER: u8 = 18;
 
 // The first and the last kind of a rule.
-pub(crate) const FIRST_RULE: u8 = 4;
+pub const FIRST_RULE: u8 = 4;
 
-pub(crate) const LAST_RULE: u8 = 23;
+pub const LAST_RULE: u8 = 23;
 
 // The guesses: of a pair, and of a number.
-pub(crate) const PAIR_GUESS: u8 = 24;
+pub const PAIR_GUESS: u8 = 24;
 
-pub(crate) const NUMBER_GUESS: u8 = 25;
+pub const NUMBER_GUESS: u8 = 25;

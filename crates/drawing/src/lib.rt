@@ -1,6 +1,6 @@
 // The added check of a drawing: 30, then 31 to 35.
 mod faults;
-mod kinds;
+pub mod kinds;
 mod search;
 
 ghost use mathlib.Core.Path.{_≡_};

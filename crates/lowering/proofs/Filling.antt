@@ -10,10 +10,10 @@ use native.Mathlib.Numerals.{add-one}
 use lib.Dec.{ltb}
 use lib.ListN.{length, getD, take, drop, replicate, length-append, length-drop, take-append-drop}
 use lib.Seq.{take-length}
-use borrow.Author.Tests.{le-leb, ltb-false, ltb-true}
+use borrow.Author.Tests.{le-leb}
 use Rattle.store.specs.Store.{written, Put}
 use Rattle.store.proofs.Laws.{written-append, written-none}
-use Rattle.refusal.proofs.Says.{refuted}
+use Rattle.refusal.proofs.Says.{Says, says-or, says-lt, fails, refuted}
 use Rattle.layout.specs.declared.Layout.{Layout}
 use Rattle.layout.specs.Push.{over}
 use Rattle.layout.proofs.Onward.{over-front}
@@ -166,19 +166,19 @@ module _ (text records : List ℕ) (l : Layout) (ids : List ℕ) (i : ℕ) (r : 
 pub put-is : {d : List ℕ} {at : ℕ} {bs : List ℕ} {b : Bool} {after : List ℕ} → Put d at bs b after → at + length bs ≤ length d → after ≡ written d at bs
 put-is {d = d} {at = at} {bs = bs} p h = p .buffer ∙ rw (le-leb (at + length bs) (length d) h) refl
 
-neither : (a b : Bool) → (a || b) ≡ false → (a ≡ false) × (b ≡ false)
-neither true b e = let z : _≡_ {A = ℕ} 0 1 = cc in absurd (omega arith)
-neither false b e = (refl, e)
-
-either : (a b : Bool) → (a || b) ≡ true → (a ≡ true) ⊎ (b ≡ true)
-either true b e = inl refl
-either false b e = inr e
+-- a kind outside the rules
+says-outside : (kind : ℕ) → Says (ltb kind 4 || ltb 23 kind) ((kind < 4) ⊎ (23 < kind))
+says-outside kind = says-or (says-lt kind 4) (says-lt 23 kind)
 
 rule-of : (kind : ℕ) → (ltb kind 4 || ltb 23 kind) ≡ false → Rule kind
-rule-of kind e = let n = neither (ltb kind 4) (ltb 23 kind) e in (ltb-false kind 4 (n .0), ltb-false 23 kind (n .1))
+rule-of kind e =
+    let f = fails (says-outside kind) e in
+    let low : kind < 4 → ⊥ = λ h. f (inl h) in
+    let high : 23 < kind → ⊥ = λ h. f (inr h) in
+    (omega (arith, low), omega (arith, high))
 
 no-rule : (kind : ℕ) → (ltb kind 4 || ltb 23 kind) ≡ true → Rule kind → ⊥
-no-rule kind e r = ⊎-elim (λ t. let h : kind < 4 = ltb-true kind 4 t in omega (arith, r .0)) (λ t. let h : 23 < kind = ltb-true 23 kind t in omega (arith, r .1)) (either (ltb kind 4) (ltb 23 kind) e)
+no-rule kind e r = ⊎-elim (λ h. omega (arith, h, r .0)) (λ h. omega (arith, h, r .1)) (says-outside kind .so e)
 
 module _ (es : List Entry) (l : Layout) (ids : List ℕ) (i : ℕ) where
   -- what an entry adds where it is no rule, and where it is one

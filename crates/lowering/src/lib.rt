@@ -4,7 +4,8 @@ mod shapes;
 mod spans;
 
 ghost use mathlib.Core.Path.{_≡_};
-ghost use Rattle.record.specs.Formed.{entries};
+ghost use Prim.Native.Nat.{_+_, _*_, _≤_};
+ghost use Rattle.record.specs.Formed.{most, entries};
 ghost use Rattle.index.specs.Labels.{drawn};
 ghost use Rattle.lowering.specs.Lower.{Lowers, onto, roomBy};
 ghost use Rattle.lowering.specs.Slots.{layoutOf};
@@ -32,6 +33,14 @@ pub enum Lowered {
         number: u8,
         place: usize,
     },
+}
+
+// How many slots so many shapes have.
+fn slots_of(points: usize, circles: usize, arcs: usize) -> usize
+    requires { ⌜ (points ≤ most) × (circles ≤ most) × (arcs ≤ most) ⌝ }
+    ensures { λ r. ⌜ r ≡ points * 2 + circles * 3 + arcs * 6 ⌝ }
+{
+    points * 2 + circles * 3 + arcs * 6
 }
 
 // 36, 37 or 38, whichever comes first, or 0.
@@ -87,7 +96,7 @@ pub fn lower(
             arcs,
             rows: count,
         } => {
-            let slots = points * 2 + circles * 3 + arcs * 6;
+            let slots = slots_of(points, circles, arcs);
             let told = lack(next, ids.len(), values.len(), rows.len(), slots, count);
             if told != 0 {
                 return Lowered::Refused {

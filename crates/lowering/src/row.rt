@@ -9,8 +9,14 @@ ghost use Rattle.layout.specs.Push.{over};
 ghost use Rattle.lowering.specs.Rows.{mostIds};
 ghost use Rattle.lowering.specs.Lower.{onto};
 ghost use Rattle.lowering.specs.Steps.{pointSix, circleSix, arcSix, sixOf, Tables, spanOf, spanIds, Addable, Added, Sayable, Begins, rowIds, rowBytesOf, rowAt, Writing, Wrote, Writable, rowsBelow};
+use crate::ROW;
 use crate::spans::number;
 use crate::spans::span_of;
+use drawing::kinds::FIRST_RULE;
+use drawing::kinds::LAST_RULE;
+use drawing::kinds::NEW_ARC;
+use drawing::kinds::NEW_CIRCLE;
+use drawing::kinds::NEW_POINT;
 use index::chain;
 use index::labels::kind_at;
 use index::labels::label_at;
@@ -24,11 +30,6 @@ use store::put;
 
 // The first byte of a row's mark.
 const MARK: u8 = 82;
-
-// The kinds of rules.
-const FIRST_RULE: u8 = 4;
-
-const LAST_RULE: u8 = 23;
 
 // A point's ids, with zeros behind them.
 fn point_six(found: PointIds) -> [u32; 6]
@@ -73,8 +74,8 @@ fn six_of(l: Layout, ids: &[u32], kind: u8, number: usize) -> [u32; 6]
     ensures { λ r. ⌜ r ≡ sixOf l (now (ids .entry)) kind number ⌝ }
 {
     match kind {
-        1 => point_six(l.point_ids(ids, number)),
-        2 => circle_six(l.circle_ids(ids, number)),
+        NEW_POINT => point_six(l.point_ids(ids, number)),
+        NEW_CIRCLE => circle_six(l.circle_ids(ids, number)),
         _ => arc_six(l.arc_slot_ids(ids, number)),
     }
 }
@@ -269,7 +270,7 @@ fn write_row(
     }
     let row = row_at(text, records, heads, nexts, numbers, l, ids, i);
     put(rows, at, &row);
-    at + 44
+    at + ROW
 }
 
 // Writes the rows of all rules, in order.
@@ -304,6 +305,6 @@ pub(crate) fn fill_rows(text: &[u8], records: &[u8], l: Layout, ids: &[u32], row
     number(records, &mut numbers);
     let mut heads = [0u16; 1024];
     let mut nexts = [0u16; 1800];
-    chain(text, records, 1, 3, &mut heads, &mut nexts);
+    chain(text, records, NEW_POINT, NEW_ARC, &mut heads, &mut nexts);
     write_rows(text, records, &heads, &nexts, &numbers, l, ids, rows);
 }

@@ -13,6 +13,11 @@ ghost use Rattle.layout.specs.Slots.{empty};
 ghost use Rattle.layout.specs.Push.{Push, state, nextOf};
 ghost use Rattle.lowering.specs.Steps.{pairFor, circleFor, arcFor, shapeFor, shapeOf, layoutAfter, pushedAt, pushedBelow, step as stepped, stage, laid, Slotted};
 use bits::from_bits;
+use drawing::kinds::NEW_ARC;
+use drawing::kinds::NEW_CIRCLE;
+use drawing::kinds::NEW_POINT;
+use drawing::kinds::NUMBER_GUESS;
+use drawing::kinds::PAIR_GUESS;
 use index::chain;
 use index::find_two;
 use index::labels::kind_at;
@@ -47,7 +52,16 @@ fn guess_of(
 {
     decode_record(
         records,
-        find_two(text, records, 24, 25, heads, nexts, label, suffix),
+        find_two(
+            text,
+            records,
+            PAIR_GUESS,
+            NUMBER_GUESS,
+            heads,
+            nexts,
+            label,
+            suffix,
+        ),
     )
 }
 
@@ -111,13 +125,13 @@ fn push_shape(
     ensures { λ r. ⌜ Push (shapeFor (drawn (now (text .entry)) (now (records .entry))) (shapeOf kind) (now (label .entry))) (state l next (now (ids .entry)) (now (values .entry))) r (now (ids .exit)) (now (values .exit)) ⌝ }
 {
     match kind {
-        1 => l.push_point(
+        NEW_POINT => l.push_point(
             next,
             ids,
             values,
             pair_of(text, records, heads, nexts, label, b""),
         ),
-        2 => l.push_circle(
+        NEW_CIRCLE => l.push_circle(
             next,
             ids,
             values,
@@ -263,9 +277,9 @@ fn lay(
         layout: Layout::new(),
         next,
     };
-    let points = push_stage(text, records, heads, nexts, 1, none, ids, values);
-    let circles = push_stage(text, records, heads, nexts, 2, points, ids, values);
-    push_stage(text, records, heads, nexts, 3, circles, ids, values)
+    let points = push_stage(text, records, heads, nexts, NEW_POINT, none, ids, values);
+    let circles = push_stage(text, records, heads, nexts, NEW_CIRCLE, points, ids, values);
+    push_stage(text, records, heads, nexts, NEW_ARC, circles, ids, values)
 }
 
 // Fills the slots of a drawing, and hands back its layout.
@@ -281,7 +295,14 @@ pub(crate) fn fill_slots(
 {
     let mut heads = [0u16; 1024];
     let mut nexts = [0u16; 1800];
-    chain(text, records, 24, 25, &mut heads, &mut nexts);
+    chain(
+        text,
+        records,
+        PAIR_GUESS,
+        NUMBER_GUESS,
+        &mut heads,
+        &mut nexts,
+    );
     let last = lay(text, records, &heads, &nexts, next, ids, values);
     last.layout
 }

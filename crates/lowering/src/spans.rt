@@ -9,10 +9,18 @@ ghost use Rattle.index.specs.Labels.{drawn};
 ghost use Rattle.index.specs.Chains.{Chained};
 ghost use Rattle.drawing.specs.Check.{countBelow};
 ghost use Rattle.lowering.specs.Steps.{sizeBy, centerBy, axisAt, endsIn, wholeSpan, centerSpan, partSpan, spanOf};
+use drawing::kinds::FIX_CENTER;
+use drawing::kinds::FIX_COMPONENT;
+use drawing::kinds::NEW_ARC;
+use drawing::kinds::NEW_CIRCLE;
+use drawing::kinds::NEW_POINT;
 use index::find;
 use index::labels::kind_at;
 use index::labels::same;
 use record::SIZE;
+
+// The third byte for y.
+const Y: u8 = 2;
 
 // A shape by its record, the first of its slots that are named, and how many.
 pub(crate) struct Span {
@@ -32,21 +40,21 @@ fn either(test: bool, yes: usize, no: usize) -> usize
 fn size_by(kind: u8) -> usize
     ensures { λ r. ⌜ r ≡ sizeBy kind ⌝ }
 {
-    either(kind == 1, 2, either(kind == 2, 3, 6))
+    either(kind == NEW_POINT, 2, either(kind == NEW_CIRCLE, 3, 6))
 }
 
 // Where the center of a circle or an arc stands among its slots.
 fn center_by(kind: u8) -> usize
     ensures { λ r. ⌜ r ≡ centerBy kind ⌝ }
 {
-    either(kind == 3, 4, 0)
+    either(kind == NEW_ARC, 4, 0)
 }
 
 // Where x or y stands in a pair.
 fn axis_at(third: u8) -> usize
     ensures { λ r. ⌜ r ≡ axisAt third ⌝ }
 {
-    either(third == 2, 1, 0)
+    either(third == Y, 1, 0)
 }
 
 // Every slot of a shape.
@@ -54,7 +62,7 @@ fn whole_span(text: &[u8], records: &[u8], heads: &[u16], nexts: &[u16], label: 
     requires { ⌜ Chained (drawn (now text) (now records)) 1 3 (now heads) (now nexts) ⌝ }
     ensures { λ r. ⌜ r ≡ wholeSpan (drawn (now (text .entry)) (now (records .entry))) (now (label .entry)) ⌝ }
 {
-    let shape = find(text, records, 1, 3, heads, nexts, label);
+    let shape = find(text, records, NEW_POINT, NEW_ARC, heads, nexts, label);
     Span {
         shape,
         first: 0,
@@ -74,7 +82,7 @@ fn center_span(
     requires { ⌜ Chained (drawn (now text) (now records)) 1 3 (now heads) (now nexts) ⌝ }
     ensures { λ r. ⌜ r ≡ centerSpan (drawn (now (text .entry)) (now (records .entry))) third (now (label .entry)) ⌝ }
 {
-    let shape = find(text, records, 1, 3, heads, nexts, label);
+    let shape = find(text, records, NEW_POINT, NEW_ARC, heads, nexts, label);
     Span {
         shape,
         first: center_by(kind_at(records, shape)) + axis_at(third),
@@ -110,7 +118,7 @@ fn part_span(
         return center_span(text, records, heads, nexts, third, &label[..n]);
     }
     Span {
-        shape: find(text, records, 1, 3, heads, nexts, label),
+        shape: find(text, records, NEW_POINT, NEW_ARC, heads, nexts, label),
         first: axis_at(third),
         count: 1,
     }
@@ -130,8 +138,8 @@ pub(crate) fn span_of(
     ensures { λ r. ⌜ r ≡ spanOf (drawn (now (text .entry)) (now (records .entry))) kind third (now (label .entry)) ⌝ }
 {
     match kind {
-        4 => part_span(text, records, heads, nexts, third, label),
-        18 => center_span(text, records, heads, nexts, third, label),
+        FIX_COMPONENT => part_span(text, records, heads, nexts, third, label),
+        FIX_CENTER => center_span(text, records, heads, nexts, third, label),
         _ => whole_span(text, records, heads, nexts, label),
     }
 }
