@@ -2,13 +2,13 @@
 use mathlib.Core.Path.{_≡_, refl, sym, _∙_, ap, subst}
 use mathlib.Core.Logic.{_⊎_, inl, inr, ⊎-elim}
 use mathlib.Core.Bool.{Bool, true, false, _||_}
-use mathlib.Core.List.{List, [], _∷_, _++_, append-assoc}
+use mathlib.Core.List.{List, [], _++_}
 use Prim.Native.Nat.{ℕ, zero, suc, _+_, _-_, _≤_, _<_}
 use native.Mathlib.Omega.{arith}
 use native.Mathlib.Nat.{le-refl}
 use native.Mathlib.Numerals.{add-one}
 use lib.Dec.{ltb}
-use lib.ListN.{length, getD, take, drop, replicate, length-append, length-drop, take-append-drop}
+use lib.ListN.{length, take, drop, replicate, length-append, take-append-drop}
 use lib.Seq.{take-length}
 use borrow.Author.Tests.{le-leb}
 use Rattle.store.specs.Store.{written, Put}
@@ -19,7 +19,7 @@ use Rattle.layout.specs.Push.{over}
 use Rattle.layout.proofs.Onward.{over-front}
 use Rattle.record.specs.declared.Record.{Record}
 use Rattle.record.specs.Decode.{decodeAt}
-use Rattle.record.specs.Entry.{Label, Entry, entryAt, labelNo, entryOf, named, upTo}
+use Rattle.record.specs.Entry.{Label, Entry, entryAt, labelNo, entryOf, named}
 use Rattle.record.proofs.UpTo.{length-up-to}
 use Rattle.index.specs.Labels.{drawn, kindNo, within}
 use Rattle.index.proofs.Drawn.{drawn-at}

@@ -2,7 +2,7 @@
 use mathlib.Core.Path.{_≡_, refl, sym, _∙_, ap}
 use mathlib.Core.Bool.{Bool}
 use mathlib.Core.List.{List}
-use Prim.Native.Nat.{ℕ, _≤_, _<_}
+use Prim.Native.Nat.{ℕ, _≤_}
 use native.Mathlib.Omega.{arith}
 use lib.ListN.{length, getD}
 use lib.Ieee.{Float}
@@ -22,7 +22,7 @@ use Rattle.drawing.specs.Check.{countBelow}
 use Rattle.drawing.proofs.Laws.{count-kinds}
 use Rattle.lowering.specs.Slots.{slots, layoutOf}
 use Rattle.lowering.specs.Lower.{onto}
-use Rattle.lowering.specs.Steps.{laid, numberNo, rowsBelow, Tables, Writable, Slotted, Passing, Filled}
+use Rattle.lowering.specs.Steps.{laid, rowsBelow, Tables, Writable, Slotted, Passing, Filled}
 use Rattle.lowering.proofs.Pushing.{laid-is}
 use Rattle.lowering.proofs.Tied.{writable, rows-are}
 

@@ -1,7 +1,7 @@
 -- What a rule's label names, step by step as the code finds it: by the chains of the declarations, the shape's record; by its kind, the slots. Assumes nothing.
 use mathlib.Core.Path.{_≡_, refl, sym, _∙_}
 use mathlib.Core.Bool.{Bool, true, false, cond}
-use mathlib.Core.List.{List, [], _∷_}
+use mathlib.Core.List.{List}
 use Prim.Native.Nat.{ℕ, _+_, _-_, _≤_, _<_}
 use native.Mathlib.Omega.{arith}
 use native.Mathlib.Numerals.{add-one}
@@ -13,7 +13,7 @@ use Rattle.layout.specs.Push.{over}
 use Rattle.ground.specs.Words.{bytes}
 use Rattle.record.specs.Decode.{decodeAt}
 use Rattle.record.specs.Entry.{Label}
-use Rattle.index.specs.Labels.{drawn, same, labelled, lowestOr, kindNo}
+use Rattle.index.specs.Labels.{drawn, same, kindNo}
 use Rattle.index.specs.Chains.{Chained, walkOf}
 use Rattle.index.proofs.Drawn.{drawn-kind}
 use Rattle.index.proofs.Found.{found}

@@ -1,6 +1,6 @@
 -- What the code's tests and answers come to, step by step: a choice by a kind, what is lacking, and a push that is taken or refused. Assumes nothing.
 use mathlib.Core.Path.{_≡_, refl, sym, _∙_, ap, subst}
-use mathlib.Core.Bool.{Bool, true, false, _||_, cond}
+use mathlib.Core.Bool.{true, false, _||_, cond}
 use mathlib.Core.List.{List, [], _∷_}
 use Prim.Native.Nat.{ℕ, _+_, _*_, _≤_, _<_}
 use native.Mathlib.Omega.{arith}
@@ -23,7 +23,7 @@ use Rattle.record.specs.Entry.{Label, Entry}
 use Rattle.index.specs.Labels.{kindNo, nameNo}
 use Rattle.lowering.specs.Rows.{rowBytes}
 use Rattle.lowering.specs.Lower.{Room}
-use Rattle.lowering.specs.Steps.{byKind, shapeFor, shapeOf, layoutAfter, pushedAt, pushedBelow, step, stage, laid, Slotted, rowBytesOf, lackTold}
+use Rattle.lowering.specs.Steps.{byKind, shapeFor, shapeOf, layoutAfter, pushedAt, pushedBelow, step, stage, laid, Slotted, lackTold}
 
 -- ---- a choice by a kind
 

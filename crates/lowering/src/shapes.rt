@@ -3,7 +3,6 @@ ghost use mathlib.Core.Path.{_≡_};
 ghost use Prim.Native.Nat.{_≤_, _<_};
 ghost use mathlib.Core.List.{_++_};
 ghost use lib.ListN.{length};
-ghost use Rattle.ground.specs.Words.{bytes};
 ghost use Rattle.record.specs.Decode.{decodeAt};
 ghost use Rattle.record.specs.Formed.{most};
 ghost use Rattle.drawing.specs.Needs.{pairGuess, numberGuess};

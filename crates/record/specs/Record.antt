@@ -3,7 +3,6 @@ use mathlib.Core.Bool.{cond}
 use mathlib.Core.List.{List, [], _∷_, _++_}
 use Prim.Native.Nat.{ℕ, _+_, _/_, _%_, _^_}
 use lib.Dec.{leb}
-use lib.ListN.{length}
 use Rattle.record.specs.declared.Record.{Record}
 
 -- ---- lengths and marks

@@ -1,7 +1,7 @@
 -- `number::power` meets its contract: an exponent below zero of over 22 is never carried, and the rest is its definition. Assumes nothing.
 use borrow.Author.Needs.{needs}
 use borrow.Author.Tests.{le-leb, lt-leb}
-use mathlib.Core.Path.{refl, sym, _∙_}
+use mathlib.Core.Path.{sym, _∙_}
 use native.Mathlib.Nat.{add-zero}
 use Rattle.number.proofs.Limits.{below-outside}
 use Rattle.number.proofs.power.Statement.{statement}

@@ -1,7 +1,7 @@
 -- `reader::forms::declare` meets its contract: it is its definition, call by call; where the word cannot stand it reads nothing. Assumes nothing.
 use borrow.Author.Needs.{needs}
 use borrow.Author.Tests.{not-true}
-use mathlib.Core.Path.{refl, sym, _∙_}
+use mathlib.Core.Path.{sym}
 use Rattle.text.specs.declared.Stand.the-variants.{At}
 use Rattle.reader.specs.Forms.{declareOn}
 use Rattle.reader.proofs.Table.{word-fits}

@@ -1,5 +1,5 @@
 -- `record::kinds::kind_of` meets its contract: each arm is its row, and what is none of them is row 0 or past the last. Assumes nothing.
-use mathlib.Core.Path.{_≡_, refl, sym}
+use mathlib.Core.Path.{_≡_, sym}
 use mathlib.Core.Logic.{⊎-elim}
 use Prim.Native.Nat.{_<_}
 use lib.ListN.{List·getD-eq-default}
