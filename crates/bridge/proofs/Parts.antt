@@ -1,0 +1,58 @@
+-- The start and length that are told of a label name the label itself; and a number that is no stage's gives an impossible layout. A good record is whole,
+-- so that it is the one record of its bytes. Assumes nothing.
+use mathlib.Core.Path.{_≡_, refl, sym, subst, ap}
+use mathlib.Core.Bool.{Bool, true, false, cond}
+use mathlib.Core.List.{List, [], _∷_}
+use Prim.Native.Nat.{ℕ, zero, suc, _<_}
+use native.Mathlib.Omega.{arith}
+use lib.Dec.{eqb}
+use lib.ListN.{length, take, drop}
+use lib.Seq.{take-all}
+use borrow.Author.Tests.{ne-eqb, lt-ltb, lt-leb}
+use Rattle.refusal.proofs.Says.{says-and, says-lt}
+use Rattle.record.specs.Record.{recordBytes}
+use Rattle.record.specs.Decode.{decode, decodeAt}
+use Rattle.record.specs.Entry.{part, startOf, lenOf, named}
+use Rattle.record.specs.Sound.{labelPlaces}
+use Rattle.record.specs.Ask.{labelOf}
+use Rattle.record.proofs.Agree.{says-good}
+use Rattle.layout.specs.Refusals.{impossible}
+use Rattle.bridge.specs.Told.{labelStart}
+use Rattle.bridge.specs.Given.{lastStage, layoutBy}
+
+-- ---- labels
+
+-- as many elements as a front has give that front
+take-front : {A : Type 0} (n : ℕ) (xs : List A) → take (length (take n xs)) xs ≡ take n xs
+take-front zero xs = refl
+take-front (suc n) [] = refl
+take-front (suc n) (x ∷ xs) = ap (λ l. x ∷ l) (take-front n xs)
+
+-- a part of a text is the part from the same start with its own length; an empty one stands anywhere
+part-again : (text : List ℕ) (s n : ℕ) (l : List ℕ) → l ≡ part text s n → part text (cond (eqb (length l) 0) 0 s) (length l) ≡ l
+part-again text s n [] e = refl
+part-again text s n (x ∷ l) e =
+    rw (ne-eqb (suc (length l)) 0 (λ z. omega (arith, z))) (subst (λ m. take (length m) (drop s text) ≡ m) (sym e) (take-front n (drop s text)))
+
+-- bytes as long as one record are that record
+one-record : (b : List ℕ) → length b ≡ recordBytes → decodeAt b 0 ≡ decode b
+unfolding decodeAt
+one-record b e = rw (e, take-all recordBytes b (omega (arith, e))) refl
+
+told-part : (text b : List ℕ) (q : ℕ) (t : Bool) → (t ≡ true → (length b ≡ recordBytes) × (q < labelPlaces))
+    → part text (labelStart b q (length (cond t (named text (decode b) q) []))) (length (cond t (named text (decode b) q) [])) ≡ cond t (named text (decode b) q) []
+told-part text b q false f = refl
+told-part text b q true f = rw (one-record b (f refl .0), lt-leb labelPlaces q (f refl .1)) (part-again text (startOf (decode b) q) (lenOf (decode b) q) (named text (decode b) q) refl)
+
+-- the part of the text that is told of a label is the label
+pub label-there : (text b : List ℕ) (q : ℕ) → part text (labelStart b q (length (labelOf text b q))) (length (labelOf text b q)) ≡ labelOf text b q
+unfolding labelOf
+label-there text b q =
+    told-part text b q _ (λ t. let w = says-and (says-good text b) (says-lt q (decode b .count)) .so t in (w .0 .framed .whole, omega (arith, w .0 .framed .few, w .1)))
+
+-- ---- stages
+
+-- 20 is told of every layout whose stage has no such number
+pub no-such-stage : (points circles arcs s : ℕ) → lastStage < s → impossible (layoutBy points circles arcs s) ≡ true
+unfolding layoutBy impossible
+no-such-stage points circles arcs s h = rw (lt-ltb lastStage s h) refl

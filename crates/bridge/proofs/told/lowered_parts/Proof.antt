@@ -1,0 +1,13 @@
+-- `bridge::told::lowered_parts` meets its contract: by the variant of the answer. Assumes nothing.
+use borrow.Author.Needs.{needs}
+use Rattle.bridge.proofs.told.lowered_parts.Statement.{statement}
+use Rattle.bridge.proofs.told.lowered_parts.Tie as tie
+
+returns : tie.Need-returns
+returns c = rw (c .before .before .r .given .1, ← c .layout-parts .ensures)
+
+returns-2 : tie.Need-returns-2
+returns-2 c = rw (c .before .before .r2 .given .1, ← c .at .ensures)
+
+pub lowered-parts-spec : {M : Type 1} → statement M
+lowered-parts-spec = tie.close (tie.spec (λ c. search needs) (λ c. search needs) (λ c κs. search needs) (λ c. search needs) (λ c κs. search needs) returns returns-2)

@@ -1,0 +1,122 @@
+// Pages and records: reading, the check, lowering, and what a record is asked for.
+use crate::PARTS;
+use crate::told::asked_code;
+use crate::told::asked_parts;
+use crate::told::checked_code;
+use crate::told::checked_parts;
+use crate::told::lowered_code;
+use crate::told::lowered_parts;
+use crate::told::reading_code;
+use crate::told::reading_parts;
+use drawing::check;
+use lowering::lower;
+use reader::parse_problem;
+use reader::parse_whole;
+use record::ask::angle_of;
+use record::ask::label;
+use record::decode::decode_record;
+ghost use mathlib.Core.Path.{_≡_};
+ghost use mathlib.Core.Bool.{true, false};
+ghost use Rattle.reader.specs.Page.{Reads};
+ghost use Rattle.record.specs.Formed.{entries};
+ghost use Rattle.record.specs.Ask.{labelOf, angleOf};
+ghost use Rattle.drawing.specs.Check.{checkedOf};
+ghost use Rattle.lowering.specs.Lower.{Lowers};
+ghost use Rattle.bridge.specs.Told.{Tells, readingTold, checkedTold, loweredTold, askedTold, labelStart, labelTold};
+
+// How many labels a record has room for.
+const LABELS: usize = 4;
+
+// Reads a page, which may leave text over, and writes its records.
+#[no_mangle]
+pub extern "C" fn hunposeto_read(text: &[u8], records: &mut [u8], out: &mut [u64; PARTS]) -> u64
+    ensures { λ r. ⌜ Tells (λ x. Reads false (now (text .entry)) (now (records .entry)) x (now (records .exit))) readingTold r (now (out .exit)) ⌝ }
+{
+    let answer = parse_problem(text, records);
+    *out = reading_parts(answer);
+    reading_code(answer)
+}
+
+// The same, where the page has to be the whole text.
+#[no_mangle]
+pub extern "C" fn hunposeto_read_whole(
+    text: &[u8],
+    records: &mut [u8],
+    out: &mut [u64; PARTS],
+) -> u64
+    ensures { λ r. ⌜ Tells (λ x. Reads true (now (text .entry)) (now (records .entry)) x (now (records .exit))) readingTold r (now (out .exit)) ⌝ }
+{
+    let answer = parse_whole(text, records);
+    *out = reading_parts(answer);
+    reading_code(answer)
+}
+
+// Where label q of a record starts, and 0 where there is no such label or it is empty.
+fn label_start(bytes: &[u8], q: usize, len: usize) -> usize
+    ensures { λ r. ⌜ r ≡ labelStart (now (bytes .entry)) q len ⌝ }
+{
+    if len == 0 {
+        return 0;
+    }
+    if LABELS <= q {
+        return 0;
+    }
+    let r = decode_record(bytes, 0);
+    let starts = [r.start0, r.start1, r.start2, r.start3];
+    starts[q]
+}
+
+// The start and length of label q of a record, counted from 0; an empty part, at 0, for a bad record or label number.
+#[no_mangle]
+pub extern "C" fn hunposeto_label(
+    text: &[u8],
+    bytes: &[u8],
+    q: usize,
+    out: &mut [u64; PARTS],
+) -> u64
+    ensures { λ r. ⌜ Tells (λ x. x ≡ labelOf (now (text .entry)) (now (bytes .entry)) q) (labelTold (now (bytes .entry)) q) r (now (out .exit)) ⌝ }
+{
+    let part = label(text, bytes, q);
+    let len = part.len();
+    let start = label_start(bytes, q, len);
+    *out = [start as u64, len as u64, 0, 0, 0, 0];
+    0
+}
+
+// The angle of a record that has one.
+#[no_mangle]
+pub extern "C" fn hunposeto_angle(text: &[u8], bytes: &[u8], out: &mut [u64; PARTS]) -> u64
+    ensures { λ r. ⌜ Tells (λ x. x ≡ angleOf (now (text .entry)) (now (bytes .entry))) askedTold r (now (out .exit)) ⌝ }
+{
+    let answer = angle_of(text, bytes);
+    *out = asked_parts(answer);
+    asked_code(answer)
+}
+
+// The check of a drawing.
+#[no_mangle]
+pub extern "C" fn hunposeto_check(text: &[u8], records: &[u8], out: &mut [u64; PARTS]) -> u64
+    ensures { λ r. ⌜ Tells (λ x. x ≡ checkedOf (entries (now (text .entry)) (now (records .entry)))) checkedTold r (now (out .exit)) ⌝ }
+{
+    let answer = check(text, records);
+    *out = checked_parts(answer);
+    checked_code(answer)
+}
+
+// Lowers a drawing from the next id.
+#[no_mangle]
+pub extern "C" fn hunposeto_lower(
+    text: &[u8],
+    records: &[u8],
+    next: u32,
+    ids: &mut [u32],
+    values: &mut [f64],
+    rows: &mut [u8],
+    out: &mut [u64; PARTS],
+) -> u64
+    ensures { λ r. ⌜ Tells (λ x. Lowers (entries (now (text .entry)) (now (records .entry))) next (now (ids .entry)) (now (values .entry)) (now (rows .entry)) x (now (ids .exit)) (now (values .exit)) (now (rows .exit))) loweredTold r (now (out .exit)) ⌝ }
+{
+    let answer = lower(text, records, next, ids, values, rows);
+    *out = lowered_parts(answer);
+    lowered_code(answer)
+}
