@@ -1,13 +1,10 @@
 // What is printed of a drawing: whether it passes the check, or its slots and rows, lowered from id 0.
 ghost use Prim.Native.Nat.{_≤_};
 ghost use lib.ListN.{length};
-use super::listed;
 use drawing::Checked;
 use libc::STDOUT_FILENO;
 use lines::Place;
 use lowering::Lowered;
-use reader::Reading;
-use record::SIZE;
 
 // Room for the most slots that 1,800 records give, and for a row of 44 bytes for each record. An arc gives the most slots: six for
 // four records, one that declares it and three guesses.
@@ -18,27 +15,11 @@ const ROWS: usize = 79_200;
 // No line of a slot or a row is longer.
 const LONGEST: usize = 128;
 
-// How many bytes so many records take, if there are so many.
-fn bytes_of(records: &[u8], count: usize) -> usize
-    ensures { λ n. ⌜ n ≤ length (now (records .entry)) ⌝ }
-{
-    if records.len() / SIZE < count {
-        return 0;
-    }
-    count * SIZE
-}
-
 // Writes out the start of a buffer.
 fn write_out(out: &[u8], n: usize)
     requires { ⌜ n ≤ length (now out) ⌝ }
 {
     io::write_all(STDOUT_FILENO, &out[..n]);
-}
-
-// Prints that a reading was refused.
-fn refused(r: Reading, out: &mut [u8]) {
-    let n = listed::put_first(r, out);
-    write_out(out, n);
 }
 
 // ---- the check
@@ -54,25 +35,9 @@ fn put_checked(c: Checked, out: &mut [u8]) -> usize
 }
 
 // Prints whether a drawing passes.
-fn show_check(text: &[u8], records: &[u8], out: &mut [u8]) {
+pub(crate) fn check(text: &[u8], records: &[u8], out: &mut [u8]) {
     let n = put_checked(drawing::check(text, records), out);
     write_out(out, n);
-}
-
-// Prints whether a page's drawing passes the check.
-pub(crate) fn check(text: &[u8], records: &mut [u8], out: &mut [u8]) {
-    let r = reader::parse_whole(text, records);
-    let Reading::Good {
-        instructions: _,
-        guesses: _,
-        end: _,
-    } = r
-    else {
-        refused(r, out);
-        return;
-    };
-    let n = bytes_of(records, listed::count_of(r));
-    show_check(text, &records[..n], out);
 }
 
 // ---- slots and rows
@@ -204,26 +169,10 @@ fn put_all(l: Lowered, ids: &[u32], values: &[f64], rows: &[u8], out: &mut [u8])
 }
 
 // Lowers a drawing and prints what came of it.
-fn show_rows(text: &[u8], records: &[u8], out: &mut [u8]) {
+pub(crate) fn rows(text: &[u8], records: &[u8], out: &mut [u8]) {
     let mut ids = [0u32; SLOTS];
     let mut values = [0.0f64; SLOTS];
     let mut rows = [0u8; ROWS];
     let l = lowering::lower(text, records, 0, &mut ids, &mut values, &mut rows);
     put_all(l, &ids, &values, &rows, out);
-}
-
-// Prints the slots and rows of a page's drawing.
-pub(crate) fn rows(text: &[u8], records: &mut [u8], out: &mut [u8]) {
-    let r = reader::parse_whole(text, records);
-    let Reading::Good {
-        instructions: _,
-        guesses: _,
-        end: _,
-    } = r
-    else {
-        refused(r, out);
-        return;
-    };
-    let n = bytes_of(records, listed::count_of(r));
-    show_rows(text, &records[..n], out);
 }

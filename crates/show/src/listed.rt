@@ -21,7 +21,7 @@ pub(crate) fn count_of(r: Reading) -> usize {
 }
 
 // Puts the first line at the start of a buffer, and tells the place after it.
-pub(crate) fn put_first(r: Reading, out: &mut [u8]) -> usize
+fn put_first(r: Reading, out: &mut [u8]) -> usize
     ensures { λ n. ⌜ n ≤ length (now (out .exit)) ⌝ }
 {
     match lines::first_line(r, out, 0) {
@@ -69,20 +69,8 @@ fn put_records(text: &[u8], records: &[u8], count: usize, out: &mut [u8], at: us
 }
 
 // Prints what a reading gave and the lines of its records, by way of a buffer.
-fn put_all(text: &[u8], r: Reading, records: &[u8], out: &mut [u8]) {
+pub(crate) fn put_all(text: &[u8], r: Reading, records: &[u8], out: &mut [u8]) {
     let at = put_first(r, out);
     let n = put_records(text, records, count_of(r), out, at);
     io::write_all(STDOUT_FILENO, &out[..n]);
-}
-
-// Prints the listing of a page, by the plain reading.
-pub(crate) fn plain(text: &[u8], records: &mut [u8], out: &mut [u8]) {
-    let r = reader::parse_problem(text, records);
-    put_all(text, r, records, out);
-}
-
-// Prints the listing of a page, by the whole reading.
-pub(crate) fn whole(text: &[u8], records: &mut [u8], out: &mut [u8]) {
-    let r = reader::parse_whole(text, records);
-    put_all(text, r, records, out);
 }
