@@ -2,13 +2,12 @@
 -- tells 30 of them; where they pass, lowering gives each rule of the page the ids of the shapes that its line names. Assumes nothing.
 use mathlib.Core.Path.{_≡_}
 use mathlib.Core.Bool.{true}
-use mathlib.Core.List.{List, map}
+use mathlib.Core.List.{List}
 use Prim.Native.Nat.{ℕ, _+_, _*_}
 use lib.Ieee.{Float}
-use Rattle.record.specs.Entry.{Entry, entryOf}
 use Rattle.record.specs.Formed.{entries}
 use Rattle.reader.specs.declared.Reading.the-variants as reading
-use Rattle.reader.specs.Page.{recordsIn, Reads}
+use Rattle.reader.specs.Page.{linesOf, Reads}
 use Rattle.reader.proofs.WellRead.{writtenIn, entries-read}
 use Rattle.drawing.specs.declared.Checked.the-variants as checked
 use Rattle.drawing.specs.Check.{checkedOf}
@@ -16,10 +15,6 @@ use Rattle.lowering.specs.declared.Lowered.{Lowered}
 use Rattle.lowering.specs.Lower.{roomIn, Lowers}
 use Rattle.lowering.specs.Demand.{EnoughFor, LowersWell}
 use Rattle.lowering.proofs.Demand.{lowers-well}
-
--- the lines of a page: its records in order, with labels as their text
-abbrev pub linesOf : List ℕ → List Entry
-linesOf text = map (entryOf text) (recordsIn text)
 
 -- a text that the whole reading accepts, and whose records pass, is lowered well, said of its lines
 pub page-to-rows : (text buffer : List ℕ) (instructions guesses end : ℕ) (buffer′ : List ℕ) → Reads true text buffer (reading.Good instructions guesses end) buffer′

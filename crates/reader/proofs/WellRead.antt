@@ -24,7 +24,7 @@ use Rattle.record.proofs.Told.{passed-iff}
 use Rattle.record.proofs.WellFormed.{well-formed-iff}
 use Rattle.record.proofs.Written.{good-written, entry-decoded}
 use Rattle.reader.specs.declared.Reading.the-variants as reading
-use Rattle.reader.specs.Page.{longestText, mostRecords, problemOf, highAt, endedOf, readingOf, recordsIn, bufferAfter, Reads}
+use Rattle.reader.specs.Page.{longestText, mostRecords, problemOf, highAt, endedOf, readingOf, recordsIn, linesOf, bufferAfter, Reads}
 use Rattle.reader.proofs.Ends.{good-says}
 use Rattle.reader.proofs.Written.{written-fits, read-back}
 use Rattle.reader.proofs.Reached.{Reached, here}
@@ -142,7 +142,7 @@ module _ (whole : Bool) (s d : List ℕ) (i g end : ℕ) (d′ : List ℕ) (r : 
   never-30 = passed-iff (entries s (writtenIn i g d′)) .0 passed-read
 
   -- their entries are the records of the page, in text order, with the labels as their text
-  pub entries-read : entries s (writtenIn i g d′) ≡ map (entryOf s) (recordsIn s)
+  pub entries-read : entries s (writtenIn i g d′) ≡ linesOf s
   unfolding entryOf
   entries-read =
       let p = page-read in

@@ -1,7 +1,7 @@
 -- A page (document 01, "Problem"; 000's `parse_problem`): its lines, its headings, what is told of it, and what a good reading writes.
 use mathlib.Core.Path.{_≡_}
 use mathlib.Core.Bool.{Bool, true, false, cond, _&&_}
-use mathlib.Core.List.{List, [], _∷_, _++_}
+use mathlib.Core.List.{List, [], _∷_, _++_, map}
 use Prim.Native.Nat.{ℕ, zero, suc, _+_, _*_}
 use lib.Dec.{ltb}
 use lib.ListN.{length, drop}
@@ -12,6 +12,7 @@ use Rattle.text.specs.declared.Stand.the-variants.{At, Nothing, Refused}
 use Rattle.store.specs.Store.{room, written}
 use Rattle.record.specs.Record.{recordBytes, encode, encodeAll}
 use Rattle.record.specs.declared.Record.{Record}
+use Rattle.record.specs.Entry.{Entry, entryOf}
 use Rattle.reader.specs.declared.forms.Line.{Line}
 use Rattle.reader.specs.declared.Reading.{Reading}
 use Rattle.reader.specs.declared.Reading.the-variants as reading
@@ -156,6 +157,10 @@ readingOf whole s bytes =
 -- the records of a page in text order
 abbrev pub recordsIn : List ℕ → List Record
 recordsIn s = problemOf s .instructions ++ problemOf s .guesses
+
+-- the lines of a page: its records in order, with labels as their text
+abbrev pub linesOf : List ℕ → List Entry
+linesOf s = map (entryOf s) (recordsIn s)
 
 -- a good reading writes its records and leaves what lies past them; a refusal leaves the buffer as it was
 abbrev pub writtenBy : Reading → List Record → List ℕ → List ℕ
