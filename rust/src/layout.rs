@@ -61,6 +61,12 @@ fn arc<T: Copy>(v: [T; 6]) -> Arc<T> {
     }
 }
 
+/// How many slots so many shapes have, at most `usize::MAX`.
+pub(crate) fn slots(points: usize, circles: usize, arcs: usize) -> usize {
+    let each = [(points, 2), (circles, 3), (arcs, 6)].map(|(n, of_one)| n.saturating_mul(of_one));
+    each.into_iter().fold(0, usize::saturating_add)
+}
+
 fn ids_of(out: raw::Out) -> [u32; 6] {
     out.map(|n| n as u32)
 }
@@ -81,9 +87,9 @@ impl Layout {
         stage: Stage::Points,
     };
 
-    /// How many slots it has.
+    /// How many slots it has; `usize::MAX` where they are more, as in an impossible layout.
     pub fn slots(&self) -> usize {
-        self.points * 2 + self.circles * 3 + self.arcs * 6
+        slots(self.points, self.circles, self.arcs)
     }
 
     fn numbers(&self) -> [usize; 4] {

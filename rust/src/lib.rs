@@ -29,7 +29,7 @@ fn told(call: impl FnOnce(*mut raw::Out) -> u64) -> Result<raw::Out, Refusal> {
     match call(&mut out) {
         0 => Ok(out),
         number => Err(Refusal {
-            why: Why::of(number).expect("a number of the table of refusals"),
+            why: Why::of(number),
             place: out[0] as usize,
         }),
     }
@@ -131,14 +131,14 @@ fn bits_at(bytes: &[u8], at: usize) -> u64 {
     u64::from_le_bytes(bytes[at..at + 8].try_into().expect("eight bytes"))
 }
 
-/// A record: one thing that was read of a page.
+/// A record: one thing that was read of a page. It borrows the page's records, its labels borrow the text alone.
 #[derive(Clone, Copy, Debug)]
-pub struct Record<'a> {
-    text: &'a [u8],
-    bytes: &'a [u8],
+pub struct Record<'t, 'r> {
+    text: &'t [u8],
+    bytes: &'r [u8],
 }
 
-impl<'a> Record<'a> {
+impl<'t, 'r> Record<'t, 'r> {
     pub fn kind(&self) -> Kind {
         Kind::of(self.bytes[1])
     }
@@ -149,13 +149,13 @@ impl<'a> Record<'a> {
     }
 
     /// Its labels, each a part of the page's text.
-    pub fn labels(&self) -> impl Iterator<Item = &'a str> + use<'a> {
+    pub fn labels(&self) -> impl Iterator<Item = &'t str> + use<'t, 'r> {
         let record = *self;
         (0..self.bytes[3] as usize).map(move |q| record.label(q))
     }
 
     /// Label q, from 0; empty where there is none.
-    pub fn label(&self, q: usize) -> &'a str {
+    pub fn label(&self, q: usize) -> &'t str {
         // SAFETY: both slices are lent for the call, and `out` is its own.
         let out = told(|out| unsafe {
             raw::hunposeto_label(
@@ -167,7 +167,7 @@ impl<'a> Record<'a> {
                 out,
             )
         });
-        let [start, len, ..] = out.expect("a label is never refused");
+        let [start, len, ..] = out.unwrap_or_default();
         std::str::from_utf8(&self.text[start as usize..][..len as usize])
             .expect("letters, digits and a point")
     }
@@ -269,7 +269,7 @@ impl<'a> Page<'a> {
     }
 
     /// Its records, in the order of the text.
-    pub fn records(&self) -> impl Iterator<Item = Record<'_>> {
+    pub fn records(&self) -> impl Iterator<Item = Record<'a, '_>> {
         self.bytes.chunks_exact(RECORD).map(|bytes| Record {
             text: self.text,
             bytes,
@@ -299,6 +299,13 @@ pub struct Counts {
     pub circles: usize,
     pub arcs: usize,
     pub rows: usize,
+}
+
+impl Counts {
+    /// How many slots its shapes have.
+    pub fn slots(&self) -> usize {
+        layout::slots(self.points, self.circles, self.arcs)
+    }
 }
 
 /// The check of records that need not come from a reading.
@@ -373,7 +380,7 @@ pub struct Drawing {
 /// Lowers records that need not come from a reading.
 pub fn lower(text: &[u8], records: &[u8], next: u32) -> Result<Drawing, Refusal> {
     let counts = check(text, records)?;
-    let slots = counts.points * 2 + counts.circles * 3 + counts.arcs * 6;
+    let slots = counts.slots();
     let (mut ids, mut values, mut rows) =
         (vec![0; slots], vec![0.0; slots], vec![0; counts.rows * ROW]);
     // SAFETY: as in `Page::read`.
@@ -406,4 +413,15 @@ pub fn lower(text: &[u8], records: &[u8], next: u32) -> Result<Drawing, Refusal>
         rows,
         next: out[4] as u32,
     })
+}
+
+#[cfg(test)]
+mod tests {
+    use super::*;
+
+    #[test]
+    fn a_code_without_a_name_is_handed_on() {
+        let refusal = told(|_| 99).unwrap_err();
+        assert_eq!((refusal.why, refusal.number()), (Why::Other(99), 99));
+    }
 }

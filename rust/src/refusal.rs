@@ -1,101 +1,74 @@
 //! Refusals: their numbers, and what they are in words.
 use std::fmt;
 
-/// Why a call is refused, with docs/FORMAT.md's number.
-#[derive(Clone, Copy, Debug, PartialEq, Eq)]
-#[repr(u8)]
-pub enum Why {
-    TextTooLong = 1,
-    HighByte = 2,
-    NoConstraintsHeading = 3,
-    NoInstruction = 4,
-    NoTwoNewLines = 5,
-    NoGuessesHeading = 6,
-    NoGuess = 7,
-    NumberNotCarried = 8,
-    NinthRoot = 9,
-    TextLeft = 10,
-    TooManyRecords = 11,
-    RecordsShort = 12,
-    LayoutImpossible = 20,
-    WrongStage = 21,
-    Full = 22,
-    SliceShort = 23,
-    NoIdsLeft = 24,
-    NoShape = 25,
-    NotWellFormed = 30,
-    DeclaredTwice = 31,
-    WrongLabel = 32,
-    NoSuchPart = 33,
-    GuessedTwice = 34,
-    WithoutGuess = 35,
-    FewIdsLeft = 36,
-    SlicesShort = 37,
-    RowsShort = 38,
+/// Makes `Why` of its table: a name, a number and words in each row.
+macro_rules! refusals {
+    ($($name:ident $number:literal $words:literal)*) => {
+        /// Why a call is refused: docs/FORMAT.md's numbers by name.
+        #[derive(Clone, Copy, Debug, PartialEq, Eq)]
+        #[non_exhaustive]
+        pub enum Why {
+            $(#[doc = $words] $name,)*
+            /// A number that has no name here.
+            Other(u64),
+        }
+
+        impl Why {
+            /// The refusal with a number.
+            pub fn of(number: u64) -> Why {
+                match number {
+                    $($number => Why::$name,)*
+                    _ => Why::Other(number),
+                }
+            }
+
+            /// Its number.
+            pub fn number(self) -> u64 {
+                match self {
+                    $(Why::$name => $number,)*
+                    Why::Other(number) => number,
+                }
+            }
+
+            /// What it is in words.
+            pub fn words(self) -> &'static str {
+                match self {
+                    $(Why::$name => $words,)*
+                    Why::Other(_) => "a refusal that has no name here",
+                }
+            }
+        }
+    };
 }
 
-/// Each refusal with its words.
-const WORDS: [(Why, &str); 27] = [
-    (Why::TextTooLong, "the text has over 32,768 bytes"),
-    (Why::HighByte, "a byte of 128 or more"),
-    (
-        Why::NoConstraintsHeading,
-        "the constraints heading is missing",
-    ),
-    (Why::NoInstruction, "no first instruction"),
-    (
-        Why::NoTwoNewLines,
-        "no two new lines after the last instruction that reads",
-    ),
-    (Why::NoGuessesHeading, "the guesses heading is missing"),
-    (Why::NoGuess, "no first guess"),
-    (Why::NumberNotCarried, "a number that is not carried"),
-    (Why::NinthRoot, "a ninth nested square root"),
-    (Why::TextLeft, "text is left over"),
-    (Why::TooManyRecords, "over 1,800 records"),
-    (Why::RecordsShort, "the record buffer is too short"),
-    (
-        Why::LayoutImpossible,
-        "the layout's counts or its stage are impossible",
-    ),
-    (Why::WrongStage, "a push or a step at the wrong stage"),
-    (Why::Full, "4,000 shapes of this kind already"),
-    (Why::SliceShort, "the slice of ids or values is too short"),
-    (Why::NoIdsLeft, "fewer ids are left than the shape needs"),
-    (Why::NoShape, "no shape of this number"),
-    (Why::NotWellFormed, "the records are not well formed"),
-    (Why::DeclaredTwice, "a label is declared twice"),
-    (Why::WrongLabel, "a label is not of the shape needed"),
-    (
-        Why::NoSuchPart,
-        "a guess names no part, or is of the wrong sort",
-    ),
-    (Why::GuessedTwice, "a part is guessed twice"),
-    (Why::WithoutGuess, "a part has no guess"),
-    (Why::FewIdsLeft, "fewer ids are left than there are slots"),
-    (
-        Why::SlicesShort,
-        "the slices of ids and values are too short",
-    ),
-    (Why::RowsShort, "the row buffer is too short"),
-];
-
-impl Why {
-    /// The refusal with a number.
-    pub fn of(number: u64) -> Option<Why> {
-        WORDS
-            .iter()
-            .map(|(why, _)| *why)
-            .find(|why| *why as u64 == number)
-    }
-
-    /// What it is in words.
-    pub fn words(self) -> &'static str {
-        WORDS
-            .iter()
-            .find(|(why, _)| *why == self)
-            .map_or("", |(_, words)| words)
-    }
+refusals! {
+    TextTooLong 1 "the text has over 32,768 bytes"
+    HighByte 2 "a byte of 128 or more"
+    NoConstraintsHeading 3 "the constraints heading is missing"
+    NoInstruction 4 "no first instruction"
+    NoTwoNewLines 5 "no two new lines after the last instruction that reads"
+    NoGuessesHeading 6 "the guesses heading is missing"
+    NoGuess 7 "no first guess"
+    NumberNotCarried 8 "a number that is not carried"
+    NinthRoot 9 "a ninth nested square root"
+    TextLeft 10 "text is left over"
+    TooManyRecords 11 "over 1,800 records"
+    RecordsShort 12 "the record buffer is too short"
+    LayoutImpossible 20 "the layout's counts or its stage are impossible"
+    WrongStage 21 "a push or a step at the wrong stage"
+    Full 22 "4,000 shapes of this kind already"
+    SliceShort 23 "the slice of ids or values is too short"
+    NoIdsLeft 24 "fewer ids are left than the shape needs"
+    NoShape 25 "no shape of this number"
+    NotWellFormed 30 "the records are not well formed"
+    DeclaredTwice 31 "a label is declared twice"
+    WrongLabel 32 "a label is not of the shape needed"
+    NoSuchPart 33 "a guess names no part, or is of the wrong sort"
+    GuessedTwice 34 "a part is guessed twice"
+    WithoutGuess 35 "a part has no guess"
+    FewIdsLeft 36 "fewer ids are left than there are slots"
+    SlicesShort 37 "the slices of ids and values are too short"
+    RowsShort 38 "the row buffer is too short"
 }
 
 impl fmt::Display for Why {
@@ -104,7 +77,8 @@ impl fmt::Display for Why {
     }
 }
 
-/// A refusal: why, and the place. A place counts bytes of the text in 1 to 12 and records in 30 to 35, from 0; else it is 0.
+/// A refusal: why, and the place. A place counts bytes of the text in 2 to 10 and records in 30 to 35, from 0. In the others of
+/// docs/FORMAT.md it is 0 and tells nothing.
 #[derive(Clone, Copy, Debug, PartialEq, Eq)]
 pub struct Refusal {
     pub why: Why,
@@ -113,25 +87,19 @@ pub struct Refusal {
 
 impl Refusal {
     /// Its number.
-    pub fn number(self) -> u8 {
-        self.why as u8
+    pub fn number(self) -> u64 {
+        self.why.number()
     }
 }
 
 impl fmt::Display for Refusal {
     fn fmt(&self, f: &mut fmt::Formatter<'_>) -> fmt::Result {
-        let unit = match self.number() {
-            1..=12 => "byte",
-            30..=35 => "record",
-            _ => return write!(f, "{} ({})", self.why, self.number()),
-        };
-        write!(
-            f,
-            "{} ({}), at {unit} {}",
-            self.why,
-            self.number(),
-            self.place
-        )
+        write!(f, "{} ({})", self.why, self.number())?;
+        match self.number() {
+            2..=10 => write!(f, ", at byte {}", self.place),
+            30..=35 => write!(f, ", at record {}", self.place),
+            _ => Ok(()),
+        }
     }
 }
 

@@ -1,5 +1,5 @@
 //! The example page of docs/FORMAT.md, and layouts.
-use hunposeto::{Angle, Arc, Circle, Kind, Layout, Page, Point, Stage, Why};
+use hunposeto::{Angle, Arc, Circle, Kind, Layout, Page, Point, Refusal, Stage, Why};
 
 const EXAMPLE: &[u8] = b"# constraints\npoint p\np.x = 0\ncircle c\nradius(c, 2)\n\n# guesses\np roughly (1, 2)\nc.center roughly (0, 0.5)\nc.radius roughly 1\n";
 
@@ -99,12 +99,136 @@ fn refusals_have_numbers_places_and_words() {
 }
 
 #[test]
-fn every_refusal_has_words() {
-    let numbers = (1..=12).chain(20..=25).chain(30..=38);
-    for number in numbers {
-        assert!(!Why::of(number).unwrap().to_string().is_empty());
+fn a_label_outlives_its_page() {
+    let text = EXAMPLE.to_vec();
+    let (first, all) = {
+        let page = Page::read_whole(&text).unwrap();
+        let record = page.records().last().unwrap();
+        (record.label(0), record.labels().collect::<Vec<_>>())
+    };
+    assert_eq!((first, all), ("c.radius", vec!["c.radius"]));
+    assert_eq!(
+        first.as_ptr() as usize - text.as_ptr() as usize,
+        EXAMPLE.len() - "c.radius roughly 1\n".len()
+    );
+}
+
+#[test]
+fn every_refusal_has_words_and_a_place_if_it_means_one() {
+    for number in (1..=12).chain(20..=25).chain(30..=38) {
+        let why = Why::of(number);
+        assert_eq!(why.number(), number);
+        assert!(!matches!(why, Why::Other(_)));
+        let place = match number {
+            2..=10 => ", at byte 7",
+            30..=35 => ", at record 7",
+            _ => "",
+        };
+        assert_eq!(
+            Refusal { why, place: 7 }.to_string(),
+            format!("{why} ({number}){place}")
+        );
     }
-    assert_eq!(Why::of(13), None);
+    let long = vec![b' '; 32_769];
+    assert_eq!(
+        Page::read(&long).unwrap_err().to_string(),
+        "the text has over 32,768 bytes (1)"
+    );
+}
+
+#[test]
+fn a_number_without_a_name_is_kept() {
+    for number in [0, 13, 26, 39, u64::MAX] {
+        let why = Why::of(number);
+        assert_eq!((why, why.number()), (Why::Other(number), number));
+    }
+    assert_eq!(
+        Refusal {
+            why: Why::of(39),
+            place: 0
+        }
+        .to_string(),
+        "a refusal that has no name here (39)"
+    );
+}
+
+/// All names there are. More may come, so that the last arm is reached; else the compiler says no here.
+#[deny(unreachable_patterns)]
+#[rustfmt::skip]
+fn has_a_name(why: Why) -> bool {
+    use Why::*;
+    match why {
+        TextTooLong | HighByte | NoConstraintsHeading | NoInstruction | NoTwoNewLines | NoGuessesHeading | NoGuess
+        | NumberNotCarried | NinthRoot | TextLeft | TooManyRecords | RecordsShort | LayoutImpossible | WrongStage | Full
+        | SliceShort | NoIdsLeft | NoShape | NotWellFormed | DeclaredTwice | WrongLabel | NoSuchPart | GuessedTwice
+        | WithoutGuess | FewIdsLeft | SlicesShort | RowsShort => true,
+        Other(_) => false,
+        _ => false,
+    }
+}
+
+#[test]
+fn names_may_be_added() {
+    assert!(has_a_name(Why::RowsShort) && !has_a_name(Why::Other(39)));
+}
+
+#[test]
+fn slots_never_overflow() {
+    let of = |points, circles, arcs| Layout {
+        points,
+        circles,
+        arcs,
+        stage: Stage::Done,
+    };
+    assert_eq!(of(1, 1, 1).slots(), 11);
+    assert_eq!(of(4000, 4000, 4000).slots(), 44_000);
+    let most = usize::MAX;
+    for l in [
+        of(most, 0, 0),
+        of(0, most, 0),
+        of(0, 0, most),
+        of(most, most, most),
+        of(most / 2, 1, 0),
+    ] {
+        assert_eq!(l.slots(), most);
+        assert_eq!(l.point(&[], 0).unwrap_err().why, Why::LayoutImpossible);
+    }
+}
+
+#[test]
+fn the_crate_claims_its_own_library() {
+    assert!(include_str!("../Cargo.toml").contains("links = \"hunposeto\""));
+}
+
+#[test]
+fn every_nan_comes_back_as_one() {
+    let (mut ids, mut values) = ([0; 2], [0.0; 2]);
+    let p = Point {
+        x: f64::from_bits(0xfff8000000000001),
+        y: f64::from_bits(0x7ff0000000000001),
+    };
+    let (l, _) = Layout::EMPTY
+        .push_point(0, &mut ids, &mut values, p)
+        .unwrap();
+    let read = l.point(&values, 0).unwrap();
+    assert_eq!(
+        (read.x.to_bits(), read.y.to_bits()),
+        (0x7ff8000000000000, 0x7ff8000000000000)
+    );
+}
+
+#[test]
+fn records_and_rows_keep_the_bits_of_a_nan() {
+    let text = b"# constraints\npoint p\np.x = 0\n\n# guesses\np roughly (1, 2)\n";
+    let other = 0xfff8000000000001_u64;
+    let mut records = Page::read_whole(text).unwrap().record_bytes().to_vec();
+    records[28 + 20..][..8].copy_from_slice(&other.to_le_bytes());
+    records[2 * 28 + 8..][..8].copy_from_slice(&other.to_le_bytes());
+    let drawing = hunposeto::lower(text, &records, 0).unwrap();
+    assert_eq!(drawing.rows[0].bytes()[36..], other.to_le_bytes());
+    assert!(drawing.values[0].is_nan());
+    let read = drawing.layout.point(&drawing.values, 0).unwrap();
+    assert_eq!(read.x.to_bits(), 0x7ff8000000000000);
 }
 
 #[test]
