@@ -5,7 +5,11 @@
  *
  * Each function answers a code: 0 where all is good, else the number of the refusal (docs/FORMAT.md). It fills `out` on
  * every call: with the parts named below, or with the refusal's place. What is left of the six is 0.
- * A refusal leaves every other lent thing as it was. */
+ * A refusal leaves every other lent thing as it was.
+ *
+ * Among doubles there is one NaN. Where `out` has the bits of a double (hunposeto_angle, hunposeto_point, hunposeto_circle and
+ * hunposeto_arc), a NaN is 7ff8000000000000, whatever its bits were. Which bits a NaN has in `values`
+ * is not told. Records and rows hold bits and not doubles, and a row has those of its record. */
 #ifndef HUNPOSETO_H
 #define HUNPOSETO_H
 
@@ -35,7 +39,8 @@ uint64_t hunposeto_angle(const uint8_t *text, size_t text_len, const uint8_t *re
 /* The check of a drawing. out: points, circles, arcs, rows. */
 uint64_t hunposeto_check(const uint8_t *text, size_t text_len, const uint8_t *records, size_t records_len, uint64_t out[6]);
 
-/* Lowers a drawing from the next id. out: points, circles, arcs, stage, next id, rows. */
+/* Lowers a drawing from the next id. out: points, circles, arcs, stage, next id, rows. It fills 2 * points + 3 * circles + 6 * arcs
+ * slots, each with an id and a value, and HUNPOSETO_ROW bytes for each row. */
 uint64_t hunposeto_lower(const uint8_t *text, size_t text_len, const uint8_t *records, size_t records_len, uint32_t next,
                          uint32_t *ids, size_t ids_len, double *values, size_t values_len, uint8_t *rows, size_t rows_len,
                          uint64_t out[6]);
