@@ -1,5 +1,5 @@
-//! The program that is counted: ezpz's textual part as it stands, and beside it the proved library `measured`. What ezpz's solver
-//! would give the textual part stands here instead: its types with the same fields, and no solving.
+//! A driver over ezpz's textual part as it stands: driver.rs beside it is counted, tests/lowered.rs asked. What ezpz's solver would
+//! give the textual part stands here instead: its types with the same fields, and no solving.
 #![no_main]
 #![allow(dead_code, unused)]
 pub mod datatypes;
@@ -89,8 +89,9 @@ impl ConstraintRequest {
     }
 }
 
+// Solving always fails, and hands back the starting values.
 #[derive(Debug)]
-pub struct FailureOutcome;
+pub struct FailureOutcome(pub Vec<(Id, f64)>);
 
 #[derive(Debug)]
 pub struct Warning;
@@ -120,16 +121,16 @@ pub struct SolveOutcomeAnalysis<A> {
     pub outcome: SolveOutcome,
 }
 
-pub fn solve(_: &[ConstraintRequest], _: Vec<(Id, f64)>, _: Config) -> Result<SolveOutcome, FailureOutcome> {
-    Err(FailureOutcome)
+pub fn solve(_: &[ConstraintRequest], start: Vec<(Id, f64)>, _: Config) -> Result<SolveOutcome, FailureOutcome> {
+    Err(FailureOutcome(start))
 }
 
 pub(crate) fn solve_with_priority_inner<A: Analysis>(
     _: &[ConstraintRequest],
-    _: Vec<(Id, f64)>,
+    start: Vec<(Id, f64)>,
     _: Config,
 ) -> Result<SolveOutcomeAnalysis<A>, FailureOutcome> {
-    Err(FailureOutcome)
+    Err(FailureOutcome(start))
 }
 
 #[unsafe(no_mangle)]

@@ -8,8 +8,8 @@
  * A refusal leaves every other lent thing as it was.
  *
  * Among doubles there is one NaN. Where `out` has the bits of a double (hunposeto_angle, hunposeto_point, hunposeto_circle and
- * hunposeto_arc), a NaN is 7ff8000000000000, whatever its bits were. Which bits a NaN has in `values`
- * is not told. Records and rows hold bits and not doubles, and a row has those of its record. */
+ * hunposeto_arc), a NaN is 7ff8000000000000, whatever its bits were. Which bits a NaN has in `values` is not told.
+ * Records and rows hold bits and not doubles, and a row has those of its record. */
 #ifndef HUNPOSETO_H
 #define HUNPOSETO_H
 
