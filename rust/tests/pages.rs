@@ -196,11 +196,6 @@ fn slots_never_overflow() {
 }
 
 #[test]
-fn the_crate_claims_its_own_library() {
-    assert!(include_str!("../Cargo.toml").contains("links = \"hunposeto\""));
-}
-
-#[test]
 fn every_nan_comes_back_as_one() {
     let (mut ids, mut values) = ([0; 2], [0.0; 2]);
     let p = Point {
