@@ -12,8 +12,7 @@ use borrow.Author.Tests.{ltb-true}
 use Rattle.refusal.specs.First.{EachBelow, allBelow}
 use Rattle.refusal.proofs.Says.{Says, refuted, says-once, says-so, says-and, says-unless, says-cond, says-if, says-iff, says-eq, says-le, says-lt, says-all}
 use Rattle.record.specs.declared.Record.{Record}
-use Rattle.record.specs.declared.kinds.Kind.{Kind}
-use Rattle.record.specs.Kinds.{kinds, kindAt, noKind, none, pair}
+use Rattle.record.specs.Kinds.{Kind, kinds, kindAt, noKind, none, pair}
 use Rattle.record.specs.Record.{recordBytes, mark, firstGuess}
 use Rattle.record.specs.Decode.{byte, decode}
 use Rattle.record.specs.Entry.{Entry, noEntry, labelNo, startOf, lenOf, named, entryOf}
@@ -134,11 +133,11 @@ module _ (text : List ℕ) (r : Record) (few : r .count ≤ labelPlaces) where
   sound-is = rw (count-is, spelled-is (kindAt (r .kind) .dotted)) refl
 
 -- a framed record is good exactly if its fields are as its kind allows and its labels are spelled as labels
-module _ (text b : List ℕ) (short : length text ≤ longest) (f : Framed text b) (r : Record) (er : r ≡ decode b) (k : Kind) (ek : k ≡ kindAt (r .kind)) where
-  pub says-fields : (fields labels : Bool) → fields ≡ fieldsTest k (r .third) (r .count) (r .x) (r .y) → labels ≡ spelledAll text r (k .dotted) → Says (fields && labels) (Good text b)
+module _ (text b : List ℕ) (short : length text ≤ longest) (f : Framed text b) (r : Record) (er : r ≡ decode b) where
+  pub says-fields : (fields labels : Bool) → fields ≡ fieldsTest (kindAt (r .kind)) (r .third) (r .count) (r .x) (r .y) → labels ≡ spelledAll text r (kindAt (r .kind) .dotted) → Says (fields && labels) (Good text b)
   says-fields fields labels ef el =
       let few : r .count ≤ labelPlaces = rw er (f .few) in
-      let e : fields && labels ≡ soundTest (entryOf text (decode b)) = rw (ef, el, ek, ← er) (sym (sound-is text r few)) in
+      let e : fields && labels ≡ soundTest (entryOf text (decode b)) = rw (ef, el, ← er) (sym (sound-is text r few)) in
       rw e (says-iff (λ s. record { short = short; framed = f; sound = s }) (λ g. g .sound) (says-sound (entryOf text (decode b))))
 
 -- ---- the kind of a good record

@@ -1,44 +1,22 @@
 -- What asking a record answers, case by case. Assumes nothing.
 use mathlib.Core.Path.{_≡_, refl, sym, ap, _∙_}
-use mathlib.Core.Logic.{_↔_}
-use mathlib.Core.Bool.{Bool, true, false, not, _&&_, _||_}
+use mathlib.Core.Bool.{true, false, _&&_}
 use mathlib.Core.List.{List, []}
 use Prim.Native.Nat.{ℕ, _+_, _-_, _≤_, _<_}
 use native.Mathlib.Omega.{arith}
-use native.Mathlib.Decide.{decLt}
 use lib.Dec.{eqb}
-use lib.ListN.{length, List·getD-eq-default}
+use lib.ListN.{length}
 use borrow.Author.Tests.{lt-ltb, le-ltb}
-use Rattle.refusal.specs.First.{allBelow}
-use Rattle.refusal.proofs.Says.{refuted, stable, says-so, says-if, says-and, says-eq, says-all}
+use Rattle.refusal.proofs.Says.{refuted, stable, says-and, says-eq}
 use Rattle.record.specs.declared.Record.{Record}
-use Rattle.record.specs.declared.kinds.Kind.{Kind}
 use Rattle.record.specs.declared.ask.Asked.the-variants as asked
-use Rattle.record.specs.Kinds.{kinds, noKind, kindAt, angle}
+use Rattle.record.specs.Kinds.{kindAt, angle}
 use Rattle.record.specs.Decode.{decode}
 use Rattle.record.specs.Entry.{startOf, lenOf, entryOf}
 use Rattle.record.specs.Sound.{labelPlaces, Good, goodTest, goodKind}
 use Rattle.record.specs.Formed.{malformed}
-use Rattle.record.specs.Ask.{labelOf, Names, angleIn, angleOf}
+use Rattle.record.specs.Ask.{labelOf, labelFrom, Names, angleIn, angleOf}
 use Rattle.record.proofs.Agree.{says-good, kind-of-bad, kind-of-good}
-
--- the one kind with an angle is 10: a computed test over the table, and past its end there is no number
-abbrev tenOnly : ℕ → Bool
-tenOnly k = not (eqb (kindAt k .number) angle) || eqb k 10
-
-ten-only : allBelow (length kinds) tenOnly ≡ true
-ten-only = refl
-
-pub angle-kind : (k : ℕ) → (kindAt k .number ≡ angle) ↔ (k ≡ 10)
-angle-kind k = (to, λ e. ap (λ (j : ℕ). kindAt j .number) e)
-  where
-    to : kindAt k .number ≡ angle → k ≡ 10
-    to e =
-        elim (decLt k (length kinds)) [
-          | yes h ↦ says-if (says-eq (kindAt k .number) angle) (says-eq k 10) .so (says-all tenOnly _ (λ j. says-so) (length kinds) .so ten-only k h) e
-          | no f ↦ (let past : length kinds ≤ k = omega (arith, f) in
-              absurd (omega (arith, sym e ∙ ap (λ (r : Kind). r .number) (List·getD-eq-default kinds noKind past))))
-        ]
 
 module _ (text b : List ℕ) where
   -- a record whose kind is told is good
@@ -52,17 +30,17 @@ module _ (text b : List ℕ) where
   -- ---- labels
 
   module _ (q : ℕ) where
-    empty : labelOf text b q ≡ [] → Names text b q (record { start = 0; end = 0 })
-    empty e = record { ordered = omega arith; inside = omega arith; is = sym e }
+    empty : labelOf text b q ≡ [] → labelFrom text b q ≡ 0 → Names text b q (record { start = 0; end = 0 })
+    empty e z = record { ordered = omega arith; inside = omega arith; starts = sym z; is = sym e }
 
     pub no-record : (Good text b → ⊥) → Names text b q (record { start = 0; end = 0 })
-    unfolding labelOf
-    no-record f = empty (rw (refuted (says-good text b) f) refl)
+    unfolding labelOf labelFrom
+    no-record f = empty (rw (refuted (says-good text b) f) refl) (rw (refuted (says-good text b) f) refl)
 
     module _ (g : Good text b) where
       pub no-label : (r : Record) → r ≡ decode b → r .count ≤ q → Names text b q (record { start = 0; end = 0 })
-      unfolding labelOf
-      no-label r e h = empty (rw (says-good text b .back g, le-ltb q (decode b .count) (rw e at h)) refl)
+      unfolding labelOf labelFrom
+      no-label r e h = empty (rw (says-good text b .back g, le-ltb q (decode b .count) (rw e at h)) refl) (rw (says-good text b .back g, le-ltb q (decode b .count) (rw e at h)) refl)
 
       -- a label that is there lies inside the text
       module _ (r : Record) (e : r ≡ decode b) (h : q < r .count) where
@@ -73,12 +51,13 @@ module _ (text b : List ℕ) where
         some-inside = rw e (g .framed .placed q some-place .used (rw e at h))
 
         pub some-label : Names text b q (record { start = startOf r q; end = startOf r q + lenOf r q })
-        unfolding labelOf
+        unfolding labelOf labelFrom
         some-label =
             let l : startOf r q + lenOf r q - startOf r q ≡ lenOf r q = omega arith in
             record {
               ordered = omega arith;
               inside = some-inside;
+              starts = rw (says-good text b .back g, lt-ltb q (decode b .count) (rw e at h), e) refl;
               is = rw (says-good text b .back g, lt-ltb q (decode b .count) (rw e at h), l, e) refl;
             }
 

@@ -8,6 +8,7 @@ pub mod Asked
 pub mod Told
 pub mod WellFormed
 pub mod Rows
+pub mod Cells
 pub mod Written
 pub mod Only
 pub mod Examples

@@ -1,15 +1,17 @@
 -- The promise of each public function, as its source states it, determines the answer: each is an equation. Of a label, which is a
--- part of the lent text, it determines the bytes. Assumes nothing.
+-- part of the lent text, it determines the bytes and the place. Assumes nothing.
 use mathlib.Core.Path.{_≡_}
 use contract.Lifetimes.{Lfts}
 use borrow.Fn.Kinds.{Dens, resT, endedOf}
 use denote.Triple.Clauses.{AtExit}
-use denote.Ref.{now}
+use denote.Ref.{now, ptr}
 use Rattle.ground.proofs.Determined.{Determined, by-equation}
 use Rattle.record.proofs.encode_record.Kinds as encode-record-kinds
 use Rattle.record.proofs.encode_record.Reads as encode-record
-use Rattle.record.proofs.kinds.kind_of.Kinds as kind-of-kinds
-use Rattle.record.proofs.kinds.kind_of.Reads as kind-of
+use Rattle.record.proofs.kinds.look.Kinds as look-kinds
+use Rattle.record.proofs.kinds.look.Reads as look
+use Rattle.record.proofs.kinds.word_of.Kinds as word-of-kinds
+use Rattle.record.proofs.kinds.word_of.Reads as word-of
 use Rattle.record.proofs.kinds.may_begin.Kinds as may-begin-kinds
 use Rattle.record.proofs.kinds.may_begin.Reads as may-begin
 use Rattle.record.proofs.decode.decode_record.Kinds as decode-record-kinds
@@ -24,8 +26,11 @@ use Rattle.record.proofs.ask.angle_of.Reads as angle-of
 pub encode-record-only : Determined 0 encode-record-kinds.ps encode-record-kinds.r encode-record.Post
 encode-record-only κs a x y e f p q = by-equation p q
 
-pub kind-of-only : Determined 0 kind-of-kinds.ps kind-of-kinds.r kind-of.Post
-kind-of-only κs a x y e f p q = by-equation p q
+pub look-only : Determined 1 look-kinds.ps look-kinds.r look.Post
+look-only κs a x y e f p q = by-equation p q
+
+pub word-of-only : Determined 0 word-of-kinds.ps word-of-kinds.r word-of.Post
+word-of-only κs a x y e f p q = by-equation p q
 
 pub may-begin-only : Determined 0 may-begin-kinds.ps may-begin-kinds.r may-begin.Post
 may-begin-only κs a x y e f p q = by-equation p q
@@ -40,5 +45,5 @@ pub angle-of-only : Determined 2 angle-of-kinds.ps angle-of-kinds.r angle-of.Pos
 angle-of-only κs a x y e f p q = by-equation p q
 
 pub label-only : (κs : Lfts 2) (a : Dens κs label-kinds.ps) (x y : resT label-kinds.r κs .Denot)
-    (e f : AtExit (endedOf 2 label-kinds.ps label-kinds.r) κs) → label.Post κs a x e → label.Post κs a y f → now x ≡ now y
-label-only κs a x y e f p q = by-equation p q
+    (e f : AtExit (endedOf 2 label-kinds.ps label-kinds.r) κs) → label.Post κs a x e → label.Post κs a y f → (now x ≡ now y) × (ptr x ≡ ptr y)
+label-only κs a x y e f p q = (by-equation (p .is) (q .is), by-equation (p .there) (q .there))

@@ -1,25 +1,22 @@
--- The bytes of a record whose fields are sound are those of a good record, and the entries of a well formed list are its records
--- with their labels as text: decode after encode is the identity. Assumes nothing.
+-- The bytes of a record whose fields are sound are those of a good record, and an entry of a well formed list is its record with its
+-- labels as text: decode after encode is the identity. Assumes nothing.
 use mathlib.Core.Path.{_≡_, refl, sym, ap, _∙_}
 use mathlib.Core.Bool.{Bool, true, false, cond}
 use mathlib.Core.List.{List, [], append-nil}
 use Prim.Native.Nat.{ℕ, _+_, _≤_, _<_}
-use native.Mathlib.Omega.{arith}
 use lib.Dec.{eqb}
 use lib.ListN.{length}
-use lib.Seq.{ext-getD}
 use borrow.Author.Tests.{le-leb, lt-ltb}
 use Rattle.refusal.specs.First.{EachBelow, allBelow}
 use Rattle.refusal.proofs.Says.{says-eq, says-all}
 use Rattle.record.specs.declared.Record.{Record}
 use Rattle.record.specs.Record.{mark, firstGuess, instruction, guess, encode}
 use Rattle.record.specs.Decode.{byte, isGuess, decode, countOf, recordOf, decodeAt, Fits}
-use Rattle.record.specs.Entry.{noEntry, entryAt, upTo, entryOf}
+use Rattle.record.specs.Entry.{entryAt, entryOf}
 use Rattle.record.specs.Sound.{longest, labelPlaces, guessEnd, guessZeros, Placed, Sound, Good}
 use Rattle.record.specs.Formed.{WellFormed, entries}
 use Rattle.record.proofs.Back.{length-encode, decode-encode}
-use Rattle.record.proofs.UpTo.{length-up-to, getD-up-to}
-use Rattle.record.proofs.Entries.{entry-good, entry-at, whole-length}
+use Rattle.record.proofs.Entries.{entry-good, entry-at}
 
 -- ---- a record that is written
 
@@ -58,12 +55,3 @@ module _ (text bs : List ℕ) (w : WellFormed text bs) where
   pub entry-decoded : (i : ℕ) → i < countOf bs → entryAt (entries text bs) i ≡ entryOf text (decodeAt bs i)
   unfolding decodeAt
   entry-decoded i h = entry-at text bs (w .short) (w .few) i h ∙ entry-good text (recordOf bs i) (w .each i h) ∙ rw (lt-ltb i (countOf bs) h) refl
-
-  pub entries-decoded : entries text bs ≡ upTo (countOf bs) (λ i. entryOf text (decodeAt bs i))
-  entries-decoded =
-      let n = whole-length text bs (w .short) (w .few) (w .whole) in
-      let m = length-up-to (countOf bs) (λ i. entryOf text (decodeAt bs i)) in
-      ext-getD noEntry (entries text bs) (upTo (countOf bs) (λ i. entryOf text (decodeAt bs i))) (n ∙ sym m)
-      (λ i h.
-      let b : i < countOf bs = omega (arith, h, n) in
-      entry-decoded i b ∙ sym (getD-up-to (countOf bs) (λ k. entryOf text (decodeAt bs k)) i noEntry b))

@@ -2,7 +2,7 @@
 use mathlib.Core.Path.{_≡_}
 use mathlib.Core.Bool.{cond, _&&_}
 use mathlib.Core.List.{List, []}
-use Prim.Native.Nat.{ℕ, _-_, _≤_}
+use Prim.Native.Nat.{ℕ, _+_, _-_, _≤_}
 use lib.Dec.{ltb, eqb}
 use lib.ListN.{length}
 use lib.Ieee.{binary64, ofBits}
@@ -14,7 +14,7 @@ use Rattle.record.specs.declared.ask.Asked.{Asked}
 use Rattle.record.specs.declared.ask.Asked.the-variants as asked
 use Rattle.record.specs.Kinds.{kindAt, angle}
 use Rattle.record.specs.Decode.{decode}
-use Rattle.record.specs.Entry.{Label, part, named}
+use Rattle.record.specs.Entry.{Label, startOf, part, named}
 use Rattle.record.specs.Sound.{goodTest}
 use Rattle.record.specs.Formed.{malformed}
 
@@ -24,11 +24,21 @@ use Rattle.record.specs.Formed.{malformed}
 unfoldable pub labelOf : List ℕ → List ℕ → ℕ → Label
 labelOf text b q = cond (goodTest text b && ltb q (decode b .count)) (named text (decode b) q) []
 
--- a part of the text that lies inside it and is that label
+-- where that part starts in the text; an empty part for a bad record or label number starts where the text does
+unfoldable pub labelFrom : List ℕ → List ℕ → ℕ → ℕ
+labelFrom text b q = cond (goodTest text b && ltb q (decode b .count)) (startOf (decode b) q) 0
+
+-- a part of the text that lies inside it, starts there and is that label
 pub record Names (text b : List ℕ) (q : ℕ) (r : Part) : Type 0 where
   pub ordered : r .start ≤ r .end
   pub inside : r .end ≤ length text
+  pub starts : r .start ≡ labelFrom text b q
   pub is : part text (r .start) (r .end - r .start) ≡ labelOf text b q
+
+-- the label is handed back as its part of the lent text: its bytes, and its own place. A place is a block of memory and an offset in it
+pub record HandsBack (text : List ℕ) (from : ℕ × ℕ) (b : List ℕ) (q : ℕ) (label : Label) (at : ℕ × ℕ) : Type 0 where
+  pub is : label ≡ labelOf text b q
+  pub there : at ≡ (from .0, labelFrom text b q + from .1)
 
 -- ---- angles
 

@@ -1,13 +1,29 @@
 -- THE table of the 25 kinds, which reader, check and lowering all read (document 01, "Kinds", "Check" and 000's forms). Its places are
 -- the kinds' numbers; row 0 is no kind.
-use mathlib.Core.Bool.{Bool, true, false, _&&_}
-use mathlib.Core.List.{List, [], _∷_, _++_}
+use mathlib.Core.Bool.{Bool, true, false, _&&_, cond}
+use mathlib.Core.List.{List, [], _∷_, _++_, map}
 use Prim.Native.Nat.{ℕ, _-_}
 use Prim.Native.String.{String}
-use lib.Dec.{eqb}
-use lib.ListN.{length, getD, take, replicate}
+use lib.Dec.{ltb, eqb}
+use lib.ListN.{length, getD, replicate}
 use Rattle.ground.specs.Words.{bytes}
-use Rattle.record.specs.declared.kinds.Kind.{Kind}
+use Rattle.record.specs.declared.kinds.Word.{Word}
+
+-- one kind of record
+pub record Kind : Type 0 where
+  -- the word that its form begins with, empty where that is a label
+  pub word : List ℕ
+  -- how many labels it has, and what each of the four label places needs
+  pub labels : ℕ
+  pub needs : List ℕ
+  -- 2 where the third byte is 1 or 2, and 0 where it is 0
+  pub thirds : ℕ
+  -- the sort of number that it has
+  pub number : ℕ
+  -- whether spaces may stand before the closing bracket
+  pub gap : Bool
+  -- whether its label may have a point and a second part
+  pub dotted : Bool
 
 -- ---- what a label's place needs, by its code
 
@@ -55,18 +71,13 @@ angle = 3
 abbrev pub pair : ℕ
 pair = 4
 
--- ---- the rows
-
--- a word in a field of twenty bytes
-abbrev pub padded : List ℕ → List ℕ
-padded w = w ++ replicate (20 - length w) 32
+-- ---- the kinds
 
 -- a kind by its word, its labels' needs, its third bytes, its number, whether a space may stand before the bracket, and whether its label may have a point
 abbrev pub kind : String → List ℕ → ℕ → ℕ → Bool → Bool → Kind
 kind w needs thirds number gap dotted =
     record {
-      word = padded (bytes w);
-      len = length (bytes w);
+      word = bytes w;
       labels = length needs;
       needs = needs ++ replicate (4 - length needs) 0;
       thirds = thirds;
@@ -154,14 +165,74 @@ kinds =
     ∷ kind "" (one number-part) 0 number false true
     ∷ []
 
--- the row of a kind
+-- a kind by its number; there is none past the last
 abbrev pub kindAt : ℕ → Kind
 kindAt k = getD kinds k noKind
 
--- the bytes of a kind's word
-abbrev pub wordOf : ℕ → List ℕ
-wordOf k = take (kindAt k .len) (kindAt k .word)
+-- ---- the kinds as a table of numbers
 
--- a kind's word, with its padding, begins with two bytes
-abbrev pub begins : Kind → ℕ → ℕ → Bool
-begins k a b = eqb (getD (k .word) 0 0) a && eqb (getD (k .word) 1 0) b
+-- how many rows and columns there are
+abbrev pub rows : ℕ
+rows = 26
+
+abbrev pub columns : ℕ
+columns = 8
+
+-- the columns by their names; the needs take four
+abbrev pub labelsColumn : ℕ
+labelsColumn = 0
+
+abbrev pub needsColumn : ℕ
+needsColumn = 1
+
+abbrev pub thirdsColumn : ℕ
+thirdsColumn = 5
+
+abbrev pub sortColumn : ℕ
+sortColumn = 6
+
+abbrev pub spellingColumn : ℕ
+spellingColumn = 7
+
+-- the spellings
+abbrev pub plain : ℕ
+plain = 0
+
+abbrev pub with-gap : ℕ
+with-gap = 1
+
+abbrev pub with-point : ℕ
+with-point = 2
+
+-- how a kind's form is spelled: no form has both
+abbrev pub spellingOf : Kind → ℕ
+spellingOf k = cond (k .gap) with-gap (cond (k .dotted) with-point plain)
+
+-- the row of a kind
+abbrev pub rowOf : Kind → List ℕ
+rowOf k = k .labels ∷ (k .needs ++ (k .thirds ∷ k .number ∷ spellingOf k ∷ []))
+
+-- a row for each kind
+abbrev pub table : List (List ℕ)
+table = map rowOf kinds
+
+-- a cell of a table of that many rows and columns, and 0 past its end
+unfoldable pub cell : List (List ℕ) → ℕ → ℕ → ℕ
+cell t kind column = cond (ltb kind rows && ltb column columns) (getD (getD t kind []) column 0) 0
+
+-- ---- the words
+
+-- the word of a kind's form
+abbrev pub wordOf : ℕ → List ℕ
+wordOf k = kindAt k .word
+
+-- a word in a field of twenty bytes, padded with blanks
+abbrev pub padded : List ℕ → List ℕ
+padded w = w ++ replicate (20 - length w) 32
+
+abbrev pub inField : List ℕ → Word
+inField w = (padded w, length w)
+
+-- a word, with its padding, begins with two bytes
+abbrev pub begins : List ℕ → ℕ → ℕ → Bool
+begins w a b = eqb (getD (padded w) 0 0) a && eqb (getD (padded w) 1 0) b

@@ -11,8 +11,7 @@ use Rattle.text.specs.declared.Stand.the-variants.{At}
 use Rattle.text.specs.declared.Label.{Label as Read}
 use Rattle.refusal.specs.First.{EachBelow, allBelow}
 use Rattle.record.specs.declared.Record.{Record}
-use Rattle.record.specs.declared.kinds.Kind.{Kind}
-use Rattle.record.specs.Kinds.{kinds, kindAt, none, pair}
+use Rattle.record.specs.Kinds.{Kind, kinds, kindAt, none, pair}
 use Rattle.record.specs.Record.{recordBytes, mark, firstGuess}
 use Rattle.record.specs.Decode.{byte, isGuess, decode}
 use Rattle.record.specs.Entry.{Label, Entry, labelNo, startOf, lenOf, named, entryOf}

@@ -1,10 +1,12 @@
 // What a record is asked for: a label, as the part of the text that it names, or its angle. The record is judged by itself.
 ghost use mathlib.Core.Path.{_≡_};
-ghost use Rattle.record.specs.Ask.{labelOf, Names, angleIn, angleOf};
+ghost use denote.Ref.{ptr};
+ghost use Rattle.record.specs.Ask.{Names, HandsBack, angleIn, angleOf};
 use super::Record;
 use super::decode;
 use super::formed::MALFORMED;
 use super::kinds;
+use super::kinds::KINDS;
 use super::sound;
 
 // The third byte of an angle in degrees.
@@ -32,12 +34,14 @@ struct Part {
 fn part_of(text: &[u8], bytes: &[u8], q: usize) -> Part
     ensures { λ r. ⌜ Names (now (text .entry)) (now (bytes .entry)) q r ⌝ }
 {
-    if sound::good_kind(text, bytes) == 0 {
-        return Part { start: 0, end: 0 };
+    let kinds = KINDS;
+    let nothing = Part { start: 0, end: 0 };
+    if sound::good_kind(&kinds, text, bytes) == 0 {
+        return nothing;
     }
     let r = decode::fields(bytes);
     if r.count as usize <= q {
-        return Part { start: 0, end: 0 };
+        return nothing;
     }
     let starts = [r.start0, r.start1, r.start2, r.start3];
     let lens = [r.len0, r.len1, r.len2, r.len3];
@@ -48,9 +52,10 @@ fn part_of(text: &[u8], bytes: &[u8], q: usize) -> Part
     }
 }
 
-// Label q of a record, counted from 0: a part of the lent text, and an empty part for a bad record or label number.
+// Label q of a record, counted from 0: the part of the lent text that it names, and for a bad record or label number an empty part at
+// the text's start.
 pub fn label<'a>(text: &'a [u8], bytes: &[u8], q: usize) -> &'a [u8]
-    ensures { λ r. ⌜ now r ≡ labelOf (now (text .entry)) (now (bytes .entry)) q ⌝ }
+    ensures { λ r. ⌜ HandsBack (now (text .entry)) (ptr (text .entry)) (now (bytes .entry)) q (now r) (ptr r) ⌝ }
 {
     let p = part_of(text, bytes, q);
     let start = p.start;
@@ -73,9 +78,9 @@ fn angle_in(r: Record) -> Angle
 pub fn angle_of(text: &[u8], bytes: &[u8]) -> Asked
     ensures { λ r. ⌜ r ≡ angleOf (now (text .entry)) (now (bytes .entry)) ⌝ }
 {
-    let kind = sound::good_kind(text, bytes);
-    let k = kinds::kind_of(kind);
-    if k.number != kinds::ANGLE {
+    let kinds = KINDS;
+    let kind = sound::good_kind(&kinds, text, bytes);
+    if kinds::look(&kinds, kind, kinds::SORT) != kinds::ANGLE {
         return Asked::Refused {
             number: MALFORMED,
             place: 0,

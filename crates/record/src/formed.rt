@@ -3,6 +3,7 @@ ghost use mathlib.Core.Path.{_≡_};
 ghost use Rattle.record.specs.Formed.{entries, misplaced, formedOf};
 use super::GUESS;
 use super::SIZE;
+use super::kinds::KINDS;
 use super::sound;
 
 // The most records, and the number of the refusal.
@@ -41,12 +42,13 @@ pub fn well_formed(text: &[u8], records: &[u8]) -> Formed
             place: 0,
         };
     }
+    let kinds = KINDS;
     let mut guessed = false;
     let mut i = 0;
     while i < n {
         let at = i * SIZE;
         let end = at + SIZE;
-        let kind = sound::good_kind(text, &records[at..end]);
+        let kind = sound::good_kind(&kinds, text, &records[at..end]);
         if at_fault(kind, i, guessed) {
             return Formed::Refused {
                 number: MALFORMED,

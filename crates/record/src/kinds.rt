@@ -1,27 +1,21 @@
-// THE table of the 25 kinds, which reader, check and lowering all read. It is indexed by the kind; row 0 is no kind.
+// THE table of the 25 kinds, which reader, check and lowering all read, and the words of their forms beside it.
 ghost use mathlib.Core.Path.{_≡_};
-ghost use Rattle.record.specs.Kinds.{kindAt, begins};
+ghost use Rattle.record.specs.Kinds.{kindAt, cell, wordOf, inField, begins};
 
-// One kind of record.
-pub struct Kind {
-    // the word of its form, padded, and how long it is; 0 where the form begins with a label
-    pub word: [u8; 20],
-    pub len: usize,
-    // how many labels, and what each of their places needs
-    pub labels: u8,
-    pub needs: [u8; 4],
-    // 2 where the third byte is 1 or 2, and 0 where it is 0
-    pub thirds: u8,
-    // the sort of number that it has
-    pub number: u8,
-    // whether spaces may stand before the closing bracket
-    pub gap: bool,
-    // whether its label may have a point and a second part
-    pub dotted: bool,
-}
+// The columns of the table: how many labels a kind has, what each of the four label places needs, its third byte, the sort of its
+// number, and how its form is spelled.
+pub const LABELS: usize = 0;
+
+pub const NEEDS: usize = 1;
+
+pub const THIRDS: usize = 5;
+
+pub const SORT: usize = 6;
+
+pub const SPELLING: usize = 7;
 
 // What a label's place needs: a new label, a point, a circle, an arc, a circle or an arc, what may be assigned, a part
-// that is guessed as a pair, or one that is guessed as a number.
+// that is guessed as a pair, or one that is guessed as a number. A place that the kind does not use has 0.
 pub const NEW: u8 = 0;
 
 pub const POINT: u8 = 1;
@@ -38,6 +32,13 @@ pub const PAIR_PART: u8 = 6;
 
 pub const NUMBER_PART: u8 = 7;
 
+pub const UNUSED: u8 = 0;
+
+// The third bytes: 0, or 1 and 2.
+pub const ZERO: u8 = 0;
+
+pub const EITHER: u8 = 2;
+
 // The sorts of number: none, a number, an expression, an angle, a pair.
 pub const NONE: u8 = 0;
 
@@ -49,358 +50,104 @@ pub const ANGLE: u8 = 3;
 
 pub const PAIR: u8 = 4;
 
-// The rows, each under its kind.
-// 0
-const NO_KIND: Kind = Kind {
-    word: *b"                    ",
-    len: 0,
-    labels: 0,
-    needs: [0, 0, 0, 0],
-    thirds: 0,
-    number: NONE,
-    gap: false,
-    dotted: false,
-};
+// The spellings: plain, with spaces allowed before the closing bracket, or with a point and a second part allowed in the label.
+pub const PLAIN: u8 = 0;
 
-// 1
-const DECLARE_POINT: Kind = Kind {
-    word: *b"point               ",
-    len: 5,
-    labels: 1,
-    needs: [NEW, 0, 0, 0],
-    thirds: 0,
-    number: NONE,
-    gap: false,
-    dotted: false,
-};
+pub const GAP: u8 = 1;
 
-// 2
-const DECLARE_CIRCLE: Kind = Kind {
-    word: *b"circle              ",
-    len: 6,
-    labels: 1,
-    needs: [NEW, 0, 0, 0],
-    thirds: 0,
-    number: NONE,
-    gap: false,
-    dotted: false,
-};
+pub const DOTTED: u8 = 2;
 
-// 3
-const DECLARE_ARC: Kind = Kind {
-    word: *b"arc                 ",
-    len: 3,
-    labels: 1,
-    needs: [NEW, 0, 0, 0],
-    thirds: 0,
-    number: NONE,
-    gap: false,
-    dotted: false,
-};
+// How many rows and columns there are.
+const ROWS: usize = 26;
 
-// 4
-const FIX_POINT_COMPONENT: Kind = Kind {
-    word: *b"                    ",
-    len: 0,
-    labels: 1,
-    needs: [ASSIGNED, 0, 0, 0],
-    thirds: 2,
-    number: NUMBER,
-    gap: false,
-    dotted: true,
-};
+const COLUMNS: usize = 8;
 
-// 5
-const VERTICAL: Kind = Kind {
-    word: *b"vertical            ",
-    len: 8,
-    labels: 2,
-    needs: [POINT, POINT, 0, 0],
-    thirds: 0,
-    number: NONE,
-    gap: true,
-    dotted: false,
-};
+// A row for each kind, indexed by its number; row 0 is no kind. It is taken once a call and lent, since a constant array is built
+// anew wherever it is named.
+pub const KINDS: [[u8; 8]; 26] = [
+    [0, UNUSED, UNUSED, UNUSED, UNUSED, ZERO, NONE, PLAIN], // 0 no kind
+    [1, NEW, UNUSED, UNUSED, UNUSED, ZERO, NONE, PLAIN], // 1 DeclarePoint
+    [1, NEW, UNUSED, UNUSED, UNUSED, ZERO, NONE, PLAIN], // 2 DeclareCircle
+    [1, NEW, UNUSED, UNUSED, UNUSED, ZERO, NONE, PLAIN], // 3 DeclareArc
+    [1, ASSIGNED, UNUSED, UNUSED, UNUSED, EITHER, NUMBER, DOTTED], // 4 FixPointComponent
+    [2, POINT, POINT, UNUSED, UNUSED, ZERO, NONE, GAP], // 5 Vertical
+    [2, POINT, POINT, UNUSED, UNUSED, ZERO, NONE, GAP], // 6 Horizontal
+    [2, POINT, POINT, UNUSED, UNUSED, ZERO, EXPRESSION, PLAIN], // 7 Distance
+    [4, POINT, POINT, POINT, POINT, ZERO, NONE, GAP], // 8 Parallel
+    [4, POINT, POINT, POINT, POINT, ZERO, NONE, GAP], // 9 Perpendicular
+    [4, POINT, POINT, POINT, POINT, EITHER, ANGLE, PLAIN], // 10 AngleLine
+    [2, POINT, POINT, UNUSED, UNUSED, ZERO, NONE, GAP], // 11 PointsCoincident
+    [2, POINT, ARC, UNUSED, UNUSED, ZERO, NONE, GAP], // 12 PointArcCoincident
+    [3, POINT, POINT, POINT, UNUSED, ZERO, NONE, GAP], // 13 Midpoint
+    [4, POINT, POINT, POINT, POINT, ZERO, NONE, GAP], // 14 Symmetric
+    [1, CIRCLE, UNUSED, UNUSED, UNUSED, ZERO, EXPRESSION, PLAIN], // 15 CircleRadius
+    [3, POINT, POINT, CIRCLE, UNUSED, ZERO, NONE, PLAIN], // 16 Tangent
+    [1, ARC, UNUSED, UNUSED, UNUSED, ZERO, NUMBER, PLAIN], // 17 ArcRadius
+    [1, ROUND, UNUSED, UNUSED, UNUSED, EITHER, NUMBER, PLAIN], // 18 FixCenterPointComponent
+    [4, POINT, POINT, POINT, POINT, ZERO, NONE, GAP], // 19 LinesEqualLength
+    [1, ARC, UNUSED, UNUSED, UNUSED, ZERO, NONE, PLAIN], // 20 IsArc
+    [3, POINT, POINT, POINT, UNUSED, ZERO, NUMBER, GAP], // 21 PointLineDistance
+    [2, POINT, POINT, UNUSED, UNUSED, ZERO, NONE, PLAIN], // 22 Line
+    [1, ARC, UNUSED, UNUSED, UNUSED, ZERO, NUMBER, PLAIN], // 23 ArcLength
+    [1, PAIR_PART, UNUSED, UNUSED, UNUSED, ZERO, PAIR, DOTTED], // 24 point guess
+    [1, NUMBER_PART, UNUSED, UNUSED, UNUSED, ZERO, NUMBER, DOTTED], // 25 scalar guess
+];
 
-// 6
-const HORIZONTAL: Kind = Kind {
-    word: *b"horizontal          ",
-    len: 10,
-    labels: 2,
-    needs: [POINT, POINT, 0, 0],
-    thirds: 0,
-    number: NONE,
-    gap: true,
-    dotted: false,
-};
-
-// 7
-const DISTANCE: Kind = Kind {
-    word: *b"distance            ",
-    len: 8,
-    labels: 2,
-    needs: [POINT, POINT, 0, 0],
-    thirds: 0,
-    number: EXPRESSION,
-    gap: false,
-    dotted: false,
-};
-
-// 8
-const PARALLEL: Kind = Kind {
-    word: *b"parallel            ",
-    len: 8,
-    labels: 4,
-    needs: [POINT, POINT, POINT, POINT],
-    thirds: 0,
-    number: NONE,
-    gap: true,
-    dotted: false,
-};
-
-// 9
-const PERPENDICULAR: Kind = Kind {
-    word: *b"perpendicular       ",
-    len: 13,
-    labels: 4,
-    needs: [POINT, POINT, POINT, POINT],
-    thirds: 0,
-    number: NONE,
-    gap: true,
-    dotted: false,
-};
-
-// 10
-const ANGLE_LINE: Kind = Kind {
-    word: *b"lines_at_angle      ",
-    len: 14,
-    labels: 4,
-    needs: [POINT, POINT, POINT, POINT],
-    thirds: 2,
-    number: ANGLE,
-    gap: false,
-    dotted: false,
-};
-
-// 11
-const POINTS_COINCIDENT: Kind = Kind {
-    word: *b"coincident          ",
-    len: 10,
-    labels: 2,
-    needs: [POINT, POINT, 0, 0],
-    thirds: 0,
-    number: NONE,
-    gap: true,
-    dotted: false,
-};
-
-// 12
-const POINT_ARC_COINCIDENT: Kind = Kind {
-    word: *b"point_arc_coincident",
-    len: 20,
-    labels: 2,
-    needs: [POINT, ARC, 0, 0],
-    thirds: 0,
-    number: NONE,
-    gap: true,
-    dotted: false,
-};
-
-// 13
-const MIDPOINT: Kind = Kind {
-    word: *b"midpoint            ",
-    len: 8,
-    labels: 3,
-    needs: [POINT, POINT, POINT, 0],
-    thirds: 0,
-    number: NONE,
-    gap: true,
-    dotted: false,
-};
-
-// 14
-const SYMMETRIC: Kind = Kind {
-    word: *b"symmetric           ",
-    len: 9,
-    labels: 4,
-    needs: [POINT, POINT, POINT, POINT],
-    thirds: 0,
-    number: NONE,
-    gap: true,
-    dotted: false,
-};
-
-// 15
-const CIRCLE_RADIUS: Kind = Kind {
-    word: *b"radius              ",
-    len: 6,
-    labels: 1,
-    needs: [CIRCLE, 0, 0, 0],
-    thirds: 0,
-    number: EXPRESSION,
-    gap: false,
-    dotted: false,
-};
-
-// 16
-const TANGENT: Kind = Kind {
-    word: *b"tangent             ",
-    len: 7,
-    labels: 3,
-    needs: [POINT, POINT, CIRCLE, 0],
-    thirds: 0,
-    number: NONE,
-    gap: false,
-    dotted: false,
-};
-
-// 17
-const ARC_RADIUS: Kind = Kind {
-    word: *b"arc_radius          ",
-    len: 10,
-    labels: 1,
-    needs: [ARC, 0, 0, 0],
-    thirds: 0,
-    number: NUMBER,
-    gap: false,
-    dotted: false,
-};
-
-// 18
-const FIX_CENTER_POINT_COMPONENT: Kind = Kind {
-    word: *b"                    ",
-    len: 0,
-    labels: 1,
-    needs: [ROUND, 0, 0, 0],
-    thirds: 2,
-    number: NUMBER,
-    gap: false,
-    dotted: false,
-};
-
-// 19
-const LINES_EQUAL_LENGTH: Kind = Kind {
-    word: *b"lines_equal_length  ",
-    len: 18,
-    labels: 4,
-    needs: [POINT, POINT, POINT, POINT],
-    thirds: 0,
-    number: NONE,
-    gap: true,
-    dotted: false,
-};
-
-// 20
-const IS_ARC: Kind = Kind {
-    word: *b"is_arc              ",
-    len: 6,
-    labels: 1,
-    needs: [ARC, 0, 0, 0],
-    thirds: 0,
-    number: NONE,
-    gap: false,
-    dotted: false,
-};
-
-// 21
-const POINT_LINE_DISTANCE: Kind = Kind {
-    word: *b"point_line_distance ",
-    len: 19,
-    labels: 3,
-    needs: [POINT, POINT, POINT, 0],
-    thirds: 0,
-    number: NUMBER,
-    gap: true,
-    dotted: false,
-};
-
-// 22
-const LINE: Kind = Kind {
-    word: *b"line                ",
-    len: 4,
-    labels: 2,
-    needs: [POINT, POINT, 0, 0],
-    thirds: 0,
-    number: NONE,
-    gap: false,
-    dotted: false,
-};
-
-// 23
-const ARC_LENGTH: Kind = Kind {
-    word: *b"arc_length          ",
-    len: 10,
-    labels: 1,
-    needs: [ARC, 0, 0, 0],
-    thirds: 0,
-    number: NUMBER,
-    gap: false,
-    dotted: false,
-};
-
-// 24
-const POINT_GUESS: Kind = Kind {
-    word: *b"                    ",
-    len: 0,
-    labels: 1,
-    needs: [PAIR_PART, 0, 0, 0],
-    thirds: 0,
-    number: PAIR,
-    gap: false,
-    dotted: true,
-};
-
-// 25
-const SCALAR_GUESS: Kind = Kind {
-    word: *b"                    ",
-    len: 0,
-    labels: 1,
-    needs: [NUMBER_PART, 0, 0, 0],
-    thirds: 0,
-    number: NUMBER,
-    gap: false,
-    dotted: true,
-};
-
-// The row of a kind, and row 0 past the last: the table is a match of constants, since an array of them is built anew wherever it is
-// read.
-pub fn kind_of(k: u8) -> Kind
-    ensures { λ r. ⌜ r ≡ kindAt k ⌝ }
+// A cell of a table of kinds, and 0 past its end.
+pub fn look(kinds: &[[u8; 8]; 26], kind: u8, column: usize) -> u8
+    ensures { λ r. ⌜ r ≡ cell (now (kinds .entry)) kind column ⌝ }
 {
-    match k {
-        1 => DECLARE_POINT,
-        2 => DECLARE_CIRCLE,
-        3 => DECLARE_ARC,
-        4 => FIX_POINT_COMPONENT,
-        5 => VERTICAL,
-        6 => HORIZONTAL,
-        7 => DISTANCE,
-        8 => PARALLEL,
-        9 => PERPENDICULAR,
-        10 => ANGLE_LINE,
-        11 => POINTS_COINCIDENT,
-        12 => POINT_ARC_COINCIDENT,
-        13 => MIDPOINT,
-        14 => SYMMETRIC,
-        15 => CIRCLE_RADIUS,
-        16 => TANGENT,
-        17 => ARC_RADIUS,
-        18 => FIX_CENTER_POINT_COMPONENT,
-        19 => LINES_EQUAL_LENGTH,
-        20 => IS_ARC,
-        21 => POINT_LINE_DISTANCE,
-        22 => LINE,
-        23 => ARC_LENGTH,
-        24 => POINT_GUESS,
-        25 => SCALAR_GUESS,
-        _ => NO_KIND,
+    let row = kind as usize;
+    if ROWS <= row {
+        return 0;
+    }
+    if COLUMNS <= column {
+        return 0;
+    }
+    kinds[row][column]
+}
+
+// A word in a field of twenty bytes, and how long it is.
+pub struct Word(pub [u8; 20], pub usize);
+
+// The word that a kind's form begins with; none for a form that begins with a label, and past the last kind.
+pub fn word_of(kind: u8) -> Word
+    ensures { λ r. ⌜ r ≡ inField (wordOf kind) ⌝ }
+{
+    match kind {
+        1 => Word(*b"point               ", 5),
+        2 => Word(*b"circle              ", 6),
+        3 => Word(*b"arc                 ", 3),
+        4 => Word(*b"                    ", 0),
+        5 => Word(*b"vertical            ", 8),
+        6 => Word(*b"horizontal          ", 10),
+        7 => Word(*b"distance            ", 8),
+        8 => Word(*b"parallel            ", 8),
+        9 => Word(*b"perpendicular       ", 13),
+        10 => Word(*b"lines_at_angle      ", 14),
+        11 => Word(*b"coincident          ", 10),
+        12 => Word(*b"point_arc_coincident", 20),
+        13 => Word(*b"midpoint            ", 8),
+        14 => Word(*b"symmetric           ", 9),
+        15 => Word(*b"radius              ", 6),
+        16 => Word(*b"tangent             ", 7),
+        17 => Word(*b"arc_radius          ", 10),
+        18 => Word(*b"                    ", 0),
+        19 => Word(*b"lines_equal_length  ", 18),
+        20 => Word(*b"is_arc              ", 6),
+        21 => Word(*b"point_line_distance ", 19),
+        22 => Word(*b"line                ", 4),
+        23 => Word(*b"arc_length          ", 10),
+        24 => Word(*b"                    ", 0),
+        25 => Word(*b"                    ", 0),
+        _ => Word(*b"                    ", 0),
     }
 }
 
 // Whether a kind's word begins with these two bytes: a quick look, before the word is read.
-pub fn may_begin(k: u8, a: u8, b: u8) -> bool
-    ensures { λ r. ⌜ r ≡ begins (kindAt k) a b ⌝ }
+pub fn may_begin(kind: u8, a: u8, b: u8) -> bool
+    ensures { λ r. ⌜ r ≡ begins (wordOf kind) a b ⌝ }
 {
-    let word = kind_of(k).word;
+    let word = word_of(kind).0;
     (word[0] == a) & (word[1] == b)
 }

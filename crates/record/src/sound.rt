@@ -4,6 +4,7 @@ ghost use mathlib.Core.Bool.{true, not, _||_};
 ghost use Prim.Native.Nat.{_+_, _≤_};
 ghost use lib.ListN.{length};
 ghost use Rattle.refusal.specs.First.{EachBelow};
+ghost use Rattle.record.specs.Kinds.{table, kindAt};
 ghost use Rattle.record.specs.Record.{recordBytes};
 ghost use Rattle.record.specs.Decode.{decode};
 ghost use Rattle.record.specs.Entry.{part};
@@ -14,7 +15,6 @@ use super::Record;
 use super::SIZE;
 use super::decode;
 use super::kinds;
-use super::kinds::Kind;
 use text::Stand;
 
 // The longest text.
@@ -99,18 +99,22 @@ fn framed(b: &[u8], r: Record, n: usize) -> bool
 }
 
 // Whether the fields of a record are as its kind allows.
-fn allowed(r: Record, k: Kind) -> bool
-    ensures { λ b. ⌜ b ≡ fieldsTest k (r .third) (r .count) (r .x) (r .y) ⌝ }
+fn allowed(kinds: &[[u8; 8]; 26], r: Record) -> bool
+    requires { ⌜ now kinds ≡ table ⌝ }
+    ensures { λ b. ⌜ b ≡ fieldsTest (kindAt (r .kind)) (r .third) (r .count) (r .x) (r .y) ⌝ }
 {
-    (0 < k.labels)
-        & (((r.third <= k.thirds) & (!(0 < k.thirds) | (0 < r.third)))
-            & ((r.count == k.labels)
-                & ((!(k.number == kinds::NONE) | (r.x == 0))
-                    & ((k.number == kinds::PAIR) | (r.y == 0)))))
+    let labels = kinds::look(kinds, r.kind, kinds::LABELS);
+    let thirds = kinds::look(kinds, r.kind, kinds::THIRDS);
+    let sort = kinds::look(kinds, r.kind, kinds::SORT);
+    (0 < labels)
+        & (((r.third <= thirds) & (!(0 < thirds) | (0 < r.third)))
+            & ((r.count == labels)
+                & ((!(sort == kinds::NONE) | (r.x == 0)) & ((sort == kinds::PAIR) | (r.y == 0)))))
 }
 
 // The kind of a good record, and 0 of any other bytes.
-pub(crate) fn good_kind(text: &[u8], b: &[u8]) -> u8
+pub(crate) fn good_kind(kinds: &[[u8; 8]; 26], text: &[u8], b: &[u8]) -> u8
+    requires { ⌜ now kinds ≡ table ⌝ }
     ensures { λ r. ⌜ r ≡ goodKind (now (text .entry)) (now (b .entry)) ⌝ }
 {
     if LONGEST < text.len() {
@@ -123,8 +127,8 @@ pub(crate) fn good_kind(text: &[u8], b: &[u8]) -> u8
     if !framed(b, r, text.len()) {
         return 0;
     }
-    let k = kinds::kind_of(r.kind);
-    if allowed(r, k) & spelled_all(text, r, k.dotted) {
+    let dotted = kinds::look(kinds, r.kind, kinds::SPELLING) == kinds::DOTTED;
+    if allowed(kinds, r) & spelled_all(text, r, dotted) {
         r.kind
     } else {
         0

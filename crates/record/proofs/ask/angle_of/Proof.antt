@@ -2,28 +2,28 @@
 use borrow.Author.Needs.{needs}
 use mathlib.Core.Path.{_≡_, sym, ap, _∙_}
 use Prim.Native.Nat.{ℕ}
-use Rattle.record.specs.declared.kinds.Kind.{Kind}
 use Rattle.record.specs.declared.ask.Asked.the-variants as asked
 use Rattle.record.specs.Kinds.{kindAt, angle}
 use Rattle.record.specs.Sound.{goodKind}
 use Rattle.record.specs.Ask.{angleIn}
+use Rattle.record.proofs.Cells.{number-is}
 use Rattle.record.proofs.Asked.{angle-good, no-angle, some-angle}
 use Rattle.record.proofs.ask.angle_of.Statement.{statement}
 use Rattle.record.proofs.ask.angle_of.Tie as tie
 
--- the entry, from behind the table's row
-abbrev start : tie.After-kind-of → tie.Start
-start c = c .before .before .before .before
+-- the entry, from behind the look at the table
+abbrev start : tie.After-look → tie.Start
+start c = c .before .before .before .before .before .before
 
 -- the sort of number that the kind of a good record has
-number-is : (c : tie.After-kind-of) → c .kind-of .result .number ≡ kindAt (goodKind (start c .args .text .now) (start c .args .bytes .now)) .number
-number-is c = ap (λ (k : Kind). k .number) (c .kind-of .ensures) ∙ ap (λ (k : ℕ). kindAt k .number) (c .before .good-kind .ensures)
+sort-is : (c : tie.After-look) → c .look .result ≡ kindAt (goodKind (start c .args .text .now) (start c .args .bytes .now)) .number
+sort-is c = c .look .ensures ∙ number-is (c .before .before .good-kind .result) ∙ ap (λ (k : ℕ). kindAt k .number) (c .before .before .good-kind .ensures)
 
-is-angle : (c : tie.Else1) → kindAt (goodKind (start (c .before .before) .args .text .now) (start (c .before .before) .args .bytes .now)) .number ≡ angle
-is-angle c = sym (number-is (c .before .before)) ∙ c .if1 .left
+is-angle : (c : tie.Else1) → kindAt (goodKind (start (c .before) .args .text .now) (start (c .before) .args .bytes .now)) .number ≡ angle
+is-angle c = sym (sort-is (c .before)) ∙ c .if1 .left
 
 returns : tie.Need-returns
-returns c = no-angle _ _ (λ e. c .if1 .taken (number-is (c .before .before) ∙ e))
+returns c = no-angle _ _ (λ e. c .if1 .taken (sort-is (c .before) ∙ e))
 
 fields-requires : tie.Need-fields-requires
 fields-requires c κs = angle-good _ _ (is-angle c) .framed .whole

@@ -12,17 +12,14 @@ returns : tie.Need-returns
 returns c = no-record _ _ _ (bad-of-kind _ _ (sym (c .before .good-kind .ensures) ∙ c .if1 .taken))
 
 -- behind the test of the kind the record is good
-good : (c : tie.Else1) → Good (c .before .before .before .before .args .text .now) (c .before .before .before .before .args .bytes .now)
+good : (c : tie.Else1) → Good (c .before .before .before .before .before .args .text .now) (c .before .before .before .before .before .args .bytes .now)
 good c = good-of-kind _ _ (λ e. c .if1 .left (c .before .good-kind .ensures ∙ e))
 
 returns-2 : tie.Need-returns-2
 returns-2 c = no-label _ _ _ (good (c .before .before .before)) _ (c .before .before .fields .ensures) (c .if2 .taken)
 
-place : (c : tie.Else2) → c .before .before .before .before .before .before .before .args .q < labelPlaces
+place : (c : tie.Else2) → c .before .before .before .before .before .before .before .before .args .q < labelPlaces
 place c = some-place _ _ _ (good (c .before .before .before)) _ (c .before .before .fields .ensures) (c .if2 .left)
-
-add-t16 : tie.Need-add-t16
-add-t16 c = omega (arith, some-inside _ _ _ (good (c .before .before .before)) _ (c .before .before .fields .ensures) (c .if2 .left))
 
 returns-3 : tie.Need-returns-3
 returns-3 c = some-label _ _ _ (good (c .before .before .before)) _ (c .before .before .fields .ensures) (c .if2 .left)
@@ -40,5 +37,5 @@ part-of-spec =
     place
     (λ c. search needs)
     place
-    add-t16
+    (λ c. omega (arith, some-inside _ _ _ (good (c .before .before .before)) _ (c .before .before .fields .ensures) (c .if2 .left)))
     returns-3)

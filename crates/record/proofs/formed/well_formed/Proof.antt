@@ -14,10 +14,10 @@ use Rattle.record.proofs.formed.well_formed.Statement.{statement}
 use Rattle.record.proofs.formed.well_formed.Tie as tie
 
 abbrev Inv-loop : tie.InvT-loop
-Inv-loop text records n guessed₀ i₀ guessed i = (i ≤ n) × Passed (entries text records) i guessed
+Inv-loop text records n kinds guessed₀ i₀ guessed i = (i ≤ n) × Passed (entries text records) i guessed
 
 abbrev μ-loop : tie.MeasureT-loop
-μ-loop text records n guessed₀ i₀ guessed i = n - i
+μ-loop text records n kinds guessed₀ i₀ guessed i = n - i
 
 returns : tie.Need-returns Inv-loop μ-loop
 returns c = over _ _ (λ short few. omega (arith, c .if1 .taken, short))
@@ -30,23 +30,23 @@ loop-holds c = (omega arith, start _)
 
 -- the entry, from behind the call in the loop
 abbrev start-at : tie.After-good-kind Inv-loop μ-loop → tie.Start Inv-loop μ-loop
-start-at c = c .before .before .before .before .before .before .before .before
+start-at c = c .before .before .before .before .before .before .before .before .before
 
 -- the kind that the loop reads is that of record i
-kind-is : (c : tie.After-good-kind Inv-loop μ-loop) → c .good-kind .result ≡ goodKind (start-at c .args .text .now) (recordOf (start-at c .args .records .now) (c .before .before .before .loop .i))
-kind-is c = c .good-kind .ensures ∙ ap (goodKind (start-at c .args .text .now)) (part-is (start-at c .args .records .now) (c .before .before .before .loop .i))
+kind-is : (c : tie.After-good-kind Inv-loop μ-loop) → c .good-kind .result ≡ goodKind (start-at c .args .text .now) (recordOf (start-at c .args .records .now) (c .before .before .before .before .loop .i))
+kind-is c = c .good-kind .ensures ∙ ap (goodKind (start-at c .args .text .now)) (part-is (start-at c .args .records .now) (c .before .before .before .before .loop .i))
 
 returns-3 : tie.Need-returns-3 Inv-loop μ-loop
 returns-3 c =
     let a = start-at (c .before .before) .args in
-    let l = c .before .before .before .before .before .loop in
+    let l = c .before .before .before .before .before .before .loop in
     fault (a .text .now) (a .records .now) (omega arith) (omega arith) (l .i) (l .guessed) (l .inv .1) (omega arith) (c .before .before .good-kind .result) (kind-is (c .before .before))
     (sym (c .before .at-fault .ensures) ∙ c .if3 .taken)
 
 loop-again : tie.Need-loop-again Inv-loop μ-loop
 loop-again c =
     let a = start-at (c .before .before) .args in
-    let l = c .before .before .before .before .before .loop in (
+    let l = c .before .before .before .before .before .before .loop in (
       omega arith,
       more (a .text .now) (a .records .now) (omega arith) (omega arith) (l .i) (l .guessed) (l .inv .1) (omega arith) (c .before .before .good-kind .result) (kind-is (c .before .before))
           (sym (c .before .at-fault .ensures) ∙ c .if3 .left),

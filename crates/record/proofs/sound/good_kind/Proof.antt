@@ -2,12 +2,17 @@
 -- fields and the labels decide. Assumes nothing.
 use borrow.Author.Needs.{needs}
 use borrow.Author.Tests.{not-true, not-false}
-use mathlib.Core.Path.{sym, ap, _∙_}
-use mathlib.Core.Bool.{_&&_}
+use mathlib.Core.Path.{_≡_, sym, ap, _∙_}
+use mathlib.Core.Bool.{Bool, _&&_}
+use mathlib.Core.List.{List}
+use Prim.Native.Nat.{ℕ}
 use native.Mathlib.Omega.{arith}
+use lib.Dec.{eqb}
 use Rattle.refusal.proofs.Says.{Says, fails}
 use Rattle.record.specs.declared.Record.{Record}
-use Rattle.record.specs.Sound.{Framed, Good}
+use Rattle.record.specs.Kinds.{with-point, cell}
+use Rattle.record.specs.Sound.{Framed, Good, spelledAll}
+use Rattle.record.proofs.Cells.{dotted-is}
 use Rattle.record.proofs.Agree.{says-framed, says-fields, kind-of-bad, kind-of-good}
 use Rattle.record.proofs.sound.good_kind.Statement.{statement}
 use Rattle.record.proofs.sound.good_kind.Tie as tie
@@ -42,9 +47,12 @@ spelled-all-requires c κs = rw (c .before .before .before .before .fields .ensu
 -- the last test
 last : (c : tie.After-spelled-all) → Says (c .before .allowed .result && c .spelled-all .result) (Good (start-last c .args .text .now) (start-last c .args .b .now))
 last c =
+    let a = start-last c .args in
     let r = c .before .before .before .before .before .fields in
-    let k = c .before .before .kind-of in
-    says-fields _ _ (omega arith) (held (c .before .before .before)) (r .result) (r .ensures) (k .result) (k .ensures) _ _ (c .before .allowed .ensures) (c .spelled-all .ensures)
+    let dotted = ap (λ (t : List (List ℕ)). eqb (cell t (r .result .kind) 7) with-point) (start-last c .pre) ∙ dotted-is (r .result .kind) in
+    let look : eqb (c .before .before .look .result) with-point ≡ _ = ap (λ (n : ℕ). eqb n with-point) (c .before .before .look .ensures) ∙ dotted in
+    says-fields _ _ (omega arith) (held (c .before .before .before)) (r .result) (r .ensures) _ _ (c .before .allowed .ensures)
+    (c .spelled-all .ensures ∙ ap (spelledAll (a .text .now) (r .result)) look)
 
 returns-4 : tie.Need-returns-4
 returns-4 c =
