@@ -1,12 +1,13 @@
 //! The example in C, built by the C compiler that CC names, or `cc`, where this machine runs what the crate is built for.
 #![cfg(at_home)]
+mod page;
+
+use page::EXAMPLE;
 use std::env::{temp_dir, var};
 use std::io::Write;
 use std::process::{Command, Stdio, id};
 
-const PAGE: &[u8] = b"# constraints\npoint p\np.x = 0\ncircle c\nradius(c, 2)\n\n# guesses\np roughly (1, 2)\nc.center roughly (0, 0.5)\nc.radius roughly 1\n";
-
-/// What the example prints for the page, lowered from an id.
+/// What it prints for the example page, lowered from an id.
 fn printed(program: &str, first: &str) -> String {
     let mut run = Command::new(program)
         .arg(first)
@@ -14,7 +15,7 @@ fn printed(program: &str, first: &str) -> String {
         .stdout(Stdio::piped())
         .spawn()
         .unwrap();
-    run.stdin.take().unwrap().write_all(PAGE).unwrap();
+    run.stdin.take().unwrap().write_all(EXAMPLE).unwrap();
     String::from_utf8(run.wait_with_output().unwrap().stdout).unwrap()
 }
 

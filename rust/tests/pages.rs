@@ -1,7 +1,8 @@
 //! The example page of docs/FORMAT.md, and layouts.
-use hunposeto::{Angle, Arc, Circle, Kind, Layout, Page, Point, Refusal, Stage, Why};
+mod page;
 
-const EXAMPLE: &[u8] = b"# constraints\npoint p\np.x = 0\ncircle c\nradius(c, 2)\n\n# guesses\np roughly (1, 2)\nc.center roughly (0, 0.5)\nc.radius roughly 1\n";
+use hunposeto::{Angle, Arc, Circle, Kind, Layout, Page, Point, Refusal, Stage, Why};
+use page::EXAMPLE;
 
 #[test]
 fn the_example_reads() {
