@@ -1,6 +1,6 @@
 -- The entries of records, place by place, by what the code reads; and where 30 is told nowhere they are the entries of the list. Assumes nothing.
 use mathlib.Core.Path.{_≡_, refl, sym, ap, _∙_}
-use mathlib.Core.Bool.{Bool, true, false, _&&_, _||_, true≢false}
+use mathlib.Core.Bool.{Bool, true, false, _&&_, _||_, cond, true≢false}
 use mathlib.Core.List.{List, []}
 use Prim.Native.Nat.{ℕ, zero, suc, _+_, _*_, _≤_, _<_}
 use native.Mathlib.Omega.{arith}
@@ -13,11 +13,11 @@ use Rattle.ground.proofs.Lists.{and-first, and-second}
 use Rattle.record.specs.declared.Record.{Record}
 use Rattle.record.specs.Record.{recordBytes, firstGuess}
 use Rattle.record.specs.Decode.{byte, u16, decode, countOf, recordOf, decodeAt}
-use Rattle.record.specs.Entry.{Entry, noEntry, entryAt, labelNo, startOf, lenOf, part, named, upTo, entryOf}
+use Rattle.record.specs.Entry.{Label, Entry, noEntry, entryAt, labelNo, startOf, lenOf, part, named, upTo, entryOf}
 use Rattle.record.specs.Formed.{WellFormed, entries}
 use Rattle.record.proofs.UpTo.{length-up-to, getD-up-to}
 use Rattle.record.proofs.Entries.{entry-good, entry-at, whole-length}
-use Rattle.index.specs.Labels.{drawn, kindNo}
+use Rattle.index.specs.Labels.{startIn, labelStart, drawn, kindNo}
 
 -- ---- the bytes of a record
 
@@ -69,46 +69,64 @@ places b (suc (suc (suc zero))) h e = let g = lt-leb firstGuess (byte b 1) (ltb-
 places b (suc (suc (suc (suc q)))) h e = absurd (omega (arith, h))
 
 -- elsewhere there is none
-no-place : (b : List ℕ) (q : ℕ) → (ltb q 4 && (eqb q 0 || ltb (byte b 1) firstGuess)) ≡ false → lenOf (decode b) q ≡ 0
+no-place : (b : List ℕ) (q : ℕ) → (ltb q 4 && (eqb q 0 || ltb (byte b 1) firstGuess)) ≡ false → (startOf (decode b) q ≡ 0) × (lenOf (decode b) q ≡ 0)
 unfolding decode
 no-place b zero e = absurd (true≢false e)
-no-place b (suc zero) e = rw (le-leb firstGuess (byte b 1) (ltb-false _ _ e)) refl
-no-place b (suc (suc zero)) e = rw (le-leb firstGuess (byte b 1) (ltb-false _ _ e)) refl
-no-place b (suc (suc (suc zero))) e = rw (le-leb firstGuess (byte b 1) (ltb-false _ _ e)) refl
-no-place b (suc (suc (suc (suc q)))) e = refl
+no-place b (suc zero) e = let g = le-leb firstGuess (byte b 1) (ltb-false _ _ e) in (rw g refl, rw g refl)
+no-place b (suc (suc zero)) e = let g = le-leb firstGuess (byte b 1) (ltb-false _ _ e) in (rw g refl, rw g refl)
+no-place b (suc (suc (suc zero))) e = let g = le-leb firstGuess (byte b 1) (ltb-false _ _ e) in (rw g refl, rw g refl)
+no-place b (suc (suc (suc (suc q)))) e = (refl, refl)
 
 pub placed-few : (kind count q : ℕ) → placed kind count q ≡ true → q < 4
 placed-few kind count q e = ltb-true q 4 (and-first _ _ (and-second (ltb q count) (ltb q 4 && (eqb q 0 || ltb kind firstGuess)) e))
 
+-- label q of a record over a text: its bytes, and where it starts
+pub record LabelIs (text : List ℕ) (r : Record) (q : ℕ) (label : Label) (start : ℕ) : Type 0 where
+  pub is : label ≡ labelNo (entryOf text r) q
+  pub starts : start ≡ labelStart text r q
+
+-- the text's start is its own
+pub start-zero : (text : List ℕ) → startIn text 0 ≡ 0
+start-zero text = go (ltb 0 (length text))
+  where
+    go : (t : Bool) → _≡_ {A = ℕ} (cond t 0 0) 0
+    go true = refl
+    go false = refl
+
 -- a label by the bytes of its record
 module _ (text b : List ℕ) (q : ℕ) where
-  read-here : placed (byte b 1) (byte b 3) q ≡ true → part text (u16 b (4 + q * 4)) (u16 b (4 + q * 4 + 2)) ≡ labelNo (entryOf text (decode b)) q
+  read-here : placed (byte b 1) (byte b 3) q ≡ true
+      → LabelIs text (decode b) q (part text (u16 b (4 + q * 4)) (u16 b (4 + q * 4 + 2))) (startIn text (u16 b (4 + q * 4)))
   unfolding decode
   read-here e =
+      let some = and-first (ltb q (byte b 3)) (ltb q 4 && (eqb q 0 || ltb (byte b 1) firstGuess)) e in
       let rest = and-second (ltb q (byte b 3)) (ltb q 4 && (eqb q 0 || ltb (byte b 1) firstGuess)) e in
       let p = places b q (placed-few (byte b 1) (byte b 3) q e) (and-second (ltb q 4) (eqb q 0 || ltb (byte b 1) firstGuess) rest) in
-      rw (← p .0, ← p .1) (label-here text (decode b) q (ltb-true q (byte b 3) (and-first (ltb q (byte b 3)) _ e)))
+      record {
+        is = rw (← p .0, ← p .1) (label-here text (decode b) q (ltb-true q (byte b 3) some));
+        starts = rw (some, ← p .0) refl;
+      }
 
-  read-none : placed (byte b 1) (byte b 3) q ≡ false → [] ≡ labelNo (entryOf text (decode b)) q
+  read-none : placed (byte b 1) (byte b 3) q ≡ false → LabelIs text (decode b) q [] 0
   unfolding decode
   read-none e = go (ltb q (byte b 3)) refl e
     where
-      go : (t : Bool) → ltb q (byte b 3) ≡ t → (t && (ltb q 4 && (eqb q 0 || ltb (byte b 1) firstGuess))) ≡ false → [] ≡ labelNo (entryOf text (decode b)) q
-      go true f g = empty ∙ label-here text (decode b) q (ltb-true q (byte b 3) f)
+      go : (t : Bool) → ltb q (byte b 3) ≡ t → (t && (ltb q 4 && (eqb q 0 || ltb (byte b 1) firstGuess))) ≡ false → LabelIs text (decode b) q [] 0
+      go true f g = record { is = empty ∙ label-here text (decode b) q (ltb-true q (byte b 3) f); starts = rw (f, no-place b q g .0) (sym (start-zero text)) }
         where
           empty : [] ≡ part text (startOf (decode b) q) (lenOf (decode b) q)
-          empty = rw (no-place b q g) refl
-      go false f g = label-past text (decode b) q (ltb-false q (byte b 3) f)
+          empty = rw (no-place b q g .1) refl
+      go false f g = record { is = label-past text (decode b) q (ltb-false q (byte b 3) f); starts = rw f refl }
 
 -- a label by the bytes of the list
 module _ (text bs : List ℕ) (i q : ℕ) where
-  pub label-none : countOf bs ≤ i → [] ≡ labelNo (entryOf text (decodeAt bs i)) q
+  pub label-none : countOf bs ≤ i → LabelIs text (decodeAt bs i) q [] 0
   unfolding decodeAt entryOf
-  label-none h = rw (le-ltb i (countOf bs) h) refl
+  label-none h = rw (le-ltb i (countOf bs) h) (record { is = refl; starts = rw (le-ltb q 0 (omega arith)) refl })
 
   module _ (h : i < countOf bs) where
     pub label-read : placed (getD bs (i * recordBytes + 1) 0) (getD bs (i * recordBytes + 3) 0) q ≡ true
-        → part text (u16 bs (i * recordBytes + 4 + q * 4)) (u16 bs (i * recordBytes + 4 + q * 4 + 2)) ≡ labelNo (entryOf text (decodeAt bs i)) q
+        → LabelIs text (decodeAt bs i) q (part text (u16 bs (i * recordBytes + 4 + q * 4)) (u16 bs (i * recordBytes + 4 + q * 4 + 2))) (startIn text (u16 bs (i * recordBytes + 4 + q * 4)))
     label-read e =
         let few : q < 4 = placed-few (getD bs (i * recordBytes + 1) 0) (getD bs (i * recordBytes + 3) 0) q e in
         let start : u16 (recordOf bs i) (4 + q * 4) ≡ u16 bs (i * recordBytes + 4 + q * 4) = u16-is bs i (4 + q * 4) (omega arith) ∙ at (omega arith) in
@@ -118,7 +136,7 @@ module _ (text bs : List ℕ) (i q : ℕ) where
         at : {k m : ℕ} → k ≡ m → u16 bs k ≡ u16 bs m
         at z = ap (u16 bs) z
 
-    pub label-unread : placed (getD bs (i * recordBytes + 1) 0) (getD bs (i * recordBytes + 3) 0) q ≡ false → [] ≡ labelNo (entryOf text (decodeAt bs i)) q
+    pub label-unread : placed (getD bs (i * recordBytes + 1) 0) (getD bs (i * recordBytes + 3) 0) q ≡ false → LabelIs text (decodeAt bs i) q [] 0
     label-unread e = rw (decode-here bs i h) (read-none text (recordOf bs i) q (rw (byte-is bs i 1 (omega arith), byte-is bs i 3 (omega arith)) e))
 
 -- ---- an entry

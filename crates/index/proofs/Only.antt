@@ -1,12 +1,12 @@
 -- The promise of each public function, as its source states it, determines the answer, and what the tables hold at last: each is made
--- of equations. Of a label, which is a part of the lent text, it determines the bytes. Assumes nothing.
+-- of equations. Of a label, which is a part of the lent text, it determines the bytes and the place. Assumes nothing.
 use mathlib.Core.Path.{_≡_}
 use mathlib.Core.List.{List}
 use Prim.Native.Nat.{ℕ}
 use contract.Lifetimes.{Lfts}
 use borrow.Fn.Kinds.{Dens, resT, endedOf}
 use denote.Triple.Clauses.{AtExit}
-use denote.Ref.{now}
+use denote.Ref.{now, ptr}
 use Rattle.ground.proofs.Determined.{Determined, Settled, by-equation}
 use Rattle.index.proofs.labels.kind_at.Kinds as kind-at-kinds
 use Rattle.index.proofs.labels.kind_at.Reads as kind-at
@@ -27,8 +27,8 @@ pub kind-at-only : Determined 1 kind-at-kinds.ps kind-at-kinds.r kind-at.Post
 kind-at-only κs a x y e f p q = by-equation p q
 
 pub label-at-only : (κs : Lfts 2) (a : Dens κs label-at-kinds.ps) (x y : resT label-at-kinds.r κs .Denot)
-    (e f : AtExit (endedOf 2 label-at-kinds.ps label-at-kinds.r) κs) → label-at.Post κs a x e → label-at.Post κs a y f → now x ≡ now y
-label-at-only κs a x y e f p q = by-equation p q
+    (e f : AtExit (endedOf 2 label-at-kinds.ps label-at-kinds.r) κs) → label-at.Post κs a x e → label-at.Post κs a y f → (now x ≡ now y) × (ptr x ≡ ptr y)
+label-at-only κs a x y e f p q = (by-equation (p .is) (q .is), by-equation (p .there) (q .there))
 
 pub same-only : Determined 2 same-kinds.ps same-kinds.r same.Post
 same-only κs a x y e f p q = by-equation p q

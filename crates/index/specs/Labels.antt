@@ -1,12 +1,14 @@
 -- The entries of records, without a look at their form, and which of them has a label: the plain search.
-use mathlib.Core.Bool.{Bool, true, false, _&&_}
+use mathlib.Core.Bool.{Bool, true, false, _&&_, cond}
 use mathlib.Core.Option.{Option, none, some}
 use mathlib.Core.List.{List, [], _∷_}
 use Prim.Native.Nat.{ℕ}
-use lib.Dec.{leb, eqb}
+use lib.Dec.{leb, ltb, eqb}
+use lib.ListN.{length}
 use Rattle.refusal.specs.First.{lowest}
+use Rattle.record.specs.declared.Record.{Record}
 use Rattle.record.specs.Decode.{countOf, decodeAt}
-use Rattle.record.specs.Entry.{Label, Entry, entryAt, labelNo, upTo, entryOf}
+use Rattle.record.specs.Entry.{Label, Entry, entryAt, labelNo, upTo, startOf, entryOf}
 
 -- ---- entries
 
@@ -23,6 +25,14 @@ abbrev pub nameNo : List Entry → ℕ → Label
 nameNo es i = labelNo (entryAt es i) 0
 
 -- ---- labels
+
+-- where a part of a text starts: at its place, and where that lies past the end at the text's start
+abbrev pub startIn : List ℕ → ℕ → ℕ
+startIn text start = cond (ltb start (length text)) start 0
+
+-- where label q of a record starts in a text; an empty one, where there is none, starts where the text does
+abbrev pub labelStart : List ℕ → Record → ℕ → ℕ
+labelStart text r q = cond (ltb q (r .count)) (startIn text (startOf r q)) 0
 
 -- two labels are the same
 abbrev pub same : Label → Label → Bool

@@ -4,8 +4,9 @@ ghost use mathlib.Core.List.{_++_};
 ghost use Prim.Native.Nat.{_+_, _<_};
 ghost use lib.ListN.{length};
 ghost use Rattle.record.specs.Decode.{u16, Wide, countOf as records-in, decodeAt};
-ghost use Rattle.record.specs.Entry.{labelNo, part as part-of, entryOf};
-ghost use Rattle.index.specs.Labels.{same as same-label};
+ghost use denote.Ref.{ptr};
+ghost use Rattle.record.specs.Entry.{labelNo, part as part-of, HandsBack, entryOf};
+ghost use Rattle.index.specs.Labels.{startIn, labelStart, same as same-label};
 use record::SIZE;
 
 // Kinds from this on are guesses, which have one label.
@@ -39,7 +40,7 @@ pub fn kind_at(records: &[u8], i: usize) -> u8
 
 // A part of the text, cut off where the text ends.
 fn part<'a>(text: &'a [u8], start: usize, len: usize) -> &'a [u8]
-    ensures { λ r. ⌜ now r ≡ part-of (now (text .entry)) start len ⌝ }
+    ensures { λ r. ⌜ HandsBack (part-of (now (text .entry)) start len) (startIn (now (text .entry)) start) (ptr (text .entry)) (now r) (ptr r) ⌝ }
 {
     if start < text.len() {
         if len <= text.len() - start {
@@ -56,7 +57,7 @@ fn part<'a>(text: &'a [u8], start: usize, len: usize) -> &'a [u8]
 // Label q of a record that is there, and an empty one where it has none.
 pub(crate) fn label_of<'a>(text: &'a [u8], records: &[u8], i: usize, q: usize) -> &'a [u8]
     requires { ⌜ i < records-in (now records) ⌝ }
-    ensures { λ r. ⌜ now r ≡ labelNo (entryOf (now (text .entry)) (decodeAt (now (records .entry)) i)) q ⌝ }
+    ensures { λ r. ⌜ HandsBack (labelNo (entryOf (now (text .entry)) (decodeAt (now (records .entry)) i)) q) (labelStart (now (text .entry)) (decodeAt (now (records .entry)) i) q) (ptr (text .entry)) (now r) (ptr r) ⌝ }
 {
     let at = i * SIZE;
     let kind = records[at + 1];
@@ -71,7 +72,7 @@ pub(crate) fn label_of<'a>(text: &'a [u8], records: &[u8], i: usize, q: usize) -
 
 // Label q of record i, and an empty one where there is none.
 pub fn label_at<'a>(text: &'a [u8], records: &[u8], i: usize, q: usize) -> &'a [u8]
-    ensures { λ r. ⌜ now r ≡ labelNo (entryOf (now (text .entry)) (decodeAt (now (records .entry)) i)) q ⌝ }
+    ensures { λ r. ⌜ HandsBack (labelNo (entryOf (now (text .entry)) (decodeAt (now (records .entry)) i)) q) (labelStart (now (text .entry)) (decodeAt (now (records .entry)) i) q) (ptr (text .entry)) (now r) (ptr r) ⌝ }
 {
     if records.len() / SIZE <= i {
         return part(text, 0, 0);

@@ -10,5 +10,6 @@ pub mod WellFormed
 pub mod Rows
 pub mod Cells
 pub mod Written
+pub mod Lent
 pub mod Only
 pub mod Examples

@@ -2,7 +2,7 @@
 use mathlib.Core.Path.{_≡_}
 use mathlib.Core.Bool.{cond, _&&_}
 use mathlib.Core.List.{List, []}
-use Prim.Native.Nat.{ℕ, _+_, _-_, _≤_}
+use Prim.Native.Nat.{ℕ, _-_, _≤_}
 use lib.Dec.{ltb, eqb}
 use lib.ListN.{length}
 use lib.Ieee.{binary64, ofBits}
@@ -34,11 +34,6 @@ pub record Names (text b : List ℕ) (q : ℕ) (r : Part) : Type 0 where
   pub inside : r .end ≤ length text
   pub starts : r .start ≡ labelFrom text b q
   pub is : part text (r .start) (r .end - r .start) ≡ labelOf text b q
-
--- the label is handed back as its part of the lent text: its bytes, and its own place. A place is a block of memory and an offset in it
-pub record HandsBack (text : List ℕ) (from : ℕ × ℕ) (b : List ℕ) (q : ℕ) (label : Label) (at : ℕ × ℕ) : Type 0 where
-  pub is : label ≡ labelOf text b q
-  pub there : at ≡ (from .0, labelFrom text b q + from .1)
 
 -- ---- angles
 

@@ -1,6 +1,7 @@
 -- A record with its labels as their text, which is what a drawing is said in: check and lowering are stated over a list of entries.
+use mathlib.Core.Path.{_≡_}
 use mathlib.Core.List.{List, [], _∷_}
-use Prim.Native.Nat.{ℕ, zero, suc}
+use Prim.Native.Nat.{ℕ, zero, suc, _+_}
 use lib.ListN.{getD, take, drop}
 use Rattle.record.specs.declared.Record.{Record}
 
@@ -46,6 +47,11 @@ lenOf r q = getD (r .len0 ∷ r .len1 ∷ r .len2 ∷ r .len3 ∷ []) q 0
 -- the part of a text that starts at a place and has a length
 abbrev pub part : List ℕ → ℕ → ℕ → Label
 part text start len = take len (drop start text)
+
+-- a part of a lent text is handed back: these bytes, from a start in the text on. A place in memory is a block and an offset in it
+pub record HandsBack (label : Label) (start : ℕ) (from : ℕ × ℕ) (bytes : List ℕ) (at : ℕ × ℕ) : Type 0 where
+  pub is : bytes ≡ label
+  pub there : at ≡ (from .0, start + from .1)
 
 -- the part of a text that label q of a record names
 abbrev pub named : List ℕ → Record → ℕ → Label

@@ -1,7 +1,8 @@
 // What a record is asked for: a label, as the part of the text that it names, or its angle. The record is judged by itself.
 ghost use mathlib.Core.Path.{_≡_};
 ghost use denote.Ref.{ptr};
-ghost use Rattle.record.specs.Ask.{Names, HandsBack, angleIn, angleOf};
+ghost use Rattle.record.specs.Entry.{HandsBack};
+ghost use Rattle.record.specs.Ask.{labelOf, labelFrom, Names, angleIn, angleOf};
 use super::Record;
 use super::decode;
 use super::formed::MALFORMED;
@@ -55,7 +56,7 @@ fn part_of(text: &[u8], bytes: &[u8], q: usize) -> Part
 // Label q of a record, counted from 0: the part of the lent text that it names, and for a bad record or label number an empty part at
 // the text's start.
 pub fn label<'a>(text: &'a [u8], bytes: &[u8], q: usize) -> &'a [u8]
-    ensures { λ r. ⌜ HandsBack (now (text .entry)) (ptr (text .entry)) (now (bytes .entry)) q (now r) (ptr r) ⌝ }
+    ensures { λ r. ⌜ HandsBack (labelOf (now (text .entry)) (now (bytes .entry)) q) (labelFrom (now (text .entry)) (now (bytes .entry)) q) (ptr (text .entry)) (now r) (ptr r) ⌝ }
 {
     let p = part_of(text, bytes, q);
     let start = p.start;

@@ -15,7 +15,7 @@ returns c =
       ← c .before .before .before .kind-of .ensures,
       c .before .before .if1 .taken,
       drawn-label (a .text .now) (a .records .now) (a .i) 0,
-      ← c .before .label-of .ensures,
+      ← c .before .label-of .ensures .is,
     ) (c .same-with .ensures)
 
 returns-2 : tie.Need-returns-2

@@ -33,7 +33,7 @@ loop-again c =
       omega arith,
       links-in (drawn (a .text .now) (a .records .now)) (a .low) (a .high) (a .nexts .now) j (l .heads) (l .nexts) (omega arith) (rw e at (l .inv .2)) (c .before .hash .result)
           (rw (drawn-kind (a .text .now) (a .records .now) j, ← c .before .before .before .before .kind-of .ensures) (c .before .before .before .if1 .taken))
-          (rw (drawn-label (a .text .now) (a .records .now) j 0, ← c .before .before .label-of .ensures) (c .before .hash .ensures .0))
+          (rw (drawn-label (a .text .now) (a .records .now) j 0, ← c .before .before .label-of .ensures .is) (c .before .hash .ensures .0))
           (c .before .hash .ensures .1),
     )
 

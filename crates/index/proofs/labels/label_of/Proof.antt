@@ -5,7 +5,8 @@ use Prim.Native.Nat.{_+_, _*_, _<_}
 use native.Mathlib.Omega.{arith}
 use lib.ListN.{getD}
 use Rattle.record.specs.Record.{recordBytes}
-use Rattle.index.proofs.Drawn.{placed-few, label-read, label-unread}
+use Rattle.record.proofs.Lent.{said-as}
+use Rattle.index.proofs.Drawn.{placed-few, start-zero, label-read, label-unread}
 use Rattle.index.proofs.labels.label_of.Statement.{statement}
 use Rattle.index.proofs.labels.label_of.Tie as tie
 
@@ -21,14 +22,14 @@ cast-count c = omega (arith, c .shared-slice-known4 .given (c .before .before .b
 returns : tie.Need-returns
 returns c =
     let a = c .before .before .before .before .before .before .before .before .args in
-    c .part .ensures
-    ∙ rw (c .before .before .u16-at .ensures .is, c .before .u16-at2 .ensures .is)
-    (label-read (a .text .now) (a .records .now) (a .i) (a .q) (c .before .before .before .before .before .before .before .before .pre) (c .before .before .before .if1 .taken))
+    let some = label-read (a .text .now) (a .records .now) (a .i) (a .q) (c .before .before .before .before .before .before .before .before .pre) (c .before .before .before .if1 .taken) in
+    said-as (some .is) (some .starts) (rw (c .before .before .u16-at .ensures .is, c .before .u16-at2 .ensures .is) at (c .part .ensures))
 
 returns-2 : tie.Need-returns-2
 returns-2 c =
     let a = c .before .before .before .before .before .before .args in
-    c .part2 .ensures ∙ label-unread (a .text .now) (a .records .now) (a .i) (a .q) (c .before .before .before .before .before .before .pre) (c .before .if1 .left)
+    let none = label-unread (a .text .now) (a .records .now) (a .i) (a .q) (c .before .before .before .before .before .before .pre) (c .before .if1 .left) in
+    said-as (none .is) (start-zero (a .text .now) ∙ none .starts) (c .part2 .ensures)
 
 pub label-of-spec : {M : Type 1} → statement M
 label-of-spec =
