@@ -16,7 +16,7 @@ good : (c : tie.Else1) → Good (c .before .before .before .before .before .args
 good c = good-of-kind _ _ (λ e. c .if1 .left (c .before .good-kind .ensures ∙ e))
 
 returns-2 : tie.Need-returns-2
-returns-2 c = no-label _ _ _ (good (c .before .before .before)) _ (c .before .before .fields .ensures) (c .if2 .taken)
+returns-2 c = no-label _ _ _ (good (c .before .before .before)) _ (c .before .before .fields .ensures) (omega (arith, c .if2 .taken))
 
 place : (c : tie.Else2) → c .before .before .before .before .before .before .before .before .args .q < labelPlaces
 place c = some-place _ _ _ (good (c .before .before .before)) _ (c .before .before .fields .ensures) (c .if2 .left)
