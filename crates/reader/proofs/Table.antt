@@ -1,22 +1,25 @@
--- What the reader needs of the table of kinds, each by one computed test. Assumes nothing.
-use mathlib.Core.Path.{refl}
+-- What the reader needs of the words of the kinds: of a field, that its word begins it, and of the keywords one computed test. Assumes nothing.
+use mathlib.Core.Path.{_≡_, refl}
 use mathlib.Core.Bool.{Bool}
+use mathlib.Core.List.{List}
 use Prim.Native.Nat.{ℕ, _≤_, _<_}
+use native.Mathlib.Omega.{arith}
 use lib.Dec.{leb}
-use lib.ListN.{length, getD}
+use lib.ListN.{length, getD, take, length-append}
+use lib.Seq.{take-at}
 use borrow.Author.Tests.{leb-true}
 use Rattle.ground.proofs.Lists.{getD-inside, all-at}
-use Rattle.record.specs.Kinds.{kinds, noKind, kindAt, wordOf}
-use Rattle.record.specs.declared.kinds.Kind.{Kind}
+use Rattle.record.specs.declared.kinds.Word.{Word}
+use Rattle.record.specs.Kinds.{wordOf, inField}
 use Rattle.reader.specs.Forms.{order}
 
--- a word is no longer than its field
-fits : Kind → Bool
-fits k = leb (k .len) (length (k .word))
+-- a word is no longer than its field, and its field begins with it
+module _ (w : List ℕ) (field : Word) (e : field ≡ inField w) where
+  pub word-fits : field .1 ≤ length (field .0)
+  word-fits = rw e (simp length-append (omega arith))
 
-pub word-fits : (k : ℕ) → kindAt k .len ≤ length (kindAt k .word)
-unfolding fits
-word-fits k = leb-true (kindAt k .len) (length (kindAt k .word)) (all-at fits kinds noKind refl refl k)
+  pub word-begins : take (field .1) (field .0) ≡ w
+  word-begins = rw e (take-at w _ (length w) refl)
 
 -- every keyword has at least two bytes
 long : ℕ → Bool

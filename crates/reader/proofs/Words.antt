@@ -7,15 +7,14 @@ use native.Mathlib.Omega.{arith}
 use native.Mathlib.Decide.{decLe}
 use native.Mathlib.Nat.{lt-of-not-le}
 use borrow.Author.Tests.{eqb-true, eqb-false}
-use lib.Dec.{eqb}
-use lib.ListN.{length, getD, drop, length-take}
-use lib.Seq.{getD-take}
+use lib.Dec.{eqb, lit<}
+use lib.ListN.{length, getD, drop, List·getD-append}
 use Rattle.text.specs.Text.{starts, wordAt, wordOn, wsOn, byteOn, labelOn}
 use Rattle.text.specs.declared.Stand.{Stand}
 use Rattle.text.specs.declared.Stand.the-variants.{At, Nothing}
 use Rattle.text.proofs.Laws.{starts-more, starts-stop, starts-short}
 use Rattle.number.specs.Number.{numberOn, exprOn}
-use Rattle.record.specs.Kinds.{kindAt, wordOf, begins, none, number, expression}
+use Rattle.record.specs.Kinds.{wordOf, padded, begins, none, number, expression}
 use Rattle.reader.specs.declared.forms.Part.{Part}
 use Rattle.reader.specs.Forms.{noLine, aroundOn, eitherOn, declareOn, moreOn, angleOn, partOn, gapOn, keywordOn}
 
@@ -35,14 +34,13 @@ module _ (w s : List ℕ) (at : ℕ) (long : 2 ≤ length w) (inside : at < leng
   first false e f = starts-stop w s 0 at (omega arith) inside (λ g. eqb-false (getD w 0 0) (getD s at 0) e (sym g))
 
 -- a word whose first two bytes are others does not stand there
-pub not-begun : (s : List ℕ) (at k : ℕ) → 2 ≤ length (wordOf k) → at < length s → begins (kindAt k) (getD s at 0) (getD s (at + 1) 0) ≡ false
+pub not-begun : (s : List ℕ) (at k : ℕ) → 2 ≤ length (wordOf k) → at < length s → begins (wordOf k) (getD s at 0) (getD s (at + 1) 0) ≡ false
     → wordOn s (At at) (wordOf k) ≡ Nothing
 unfolding wordOn wordAt
 not-begun s at k l h e =
-    let n = kindAt k .len in
-    let w = kindAt k .word in
-    let m : 2 ≤ n = omega (arith, l, length-take n w) in
-    rw (first (wordOf k) s at l h (eqb (getD (wordOf k) 0 0) (getD s at 0)) refl (rw (getD-take n w 0 0 (omega arith), getD-take n w 1 0 (omega arith)) e))
+    let w = wordOf k in
+    let inside : (i : ℕ) → i < 2 → getD (padded w) i 0 ≡ getD w i 0 = λ i b. List·getD-append w _ 0 i (omega arith) in
+    rw (first w s at l h (eqb (getD w 0 0) (getD s at 0)) refl (rw (← inside 0 (lit< tt), ← inside 1 (lit< tt)) e))
 
 -- past the end no word stands
 pub past-end : (s w : List ℕ) (at : ℕ) → 2 ≤ length w → length s ≤ at → wordOn s (At at) w ≡ Nothing

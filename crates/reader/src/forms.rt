@@ -5,12 +5,12 @@ ghost use Prim.Native.Nat.{_≤_};
 ghost use lib.ListN.{length, take};
 ghost use Rattle.text.specs.Text.{wordOn};
 ghost use Rattle.text.specs.declared.Stand.the-variants.{At, Nothing};
-ghost use Rattle.record.specs.Kinds.{wordOf};
+ghost use Rattle.record.specs.Kinds.{table, wordOf};
 ghost use Rattle.reader.specs.Forms.{noLine, lineOf, labelled, aroundOn, eitherOn, componentOn, pairOn, declareOn, fixedOn, assignOn, moreOn, angleOn, plainPart, partOn, gapOn, keywordOn, order, firstOf, labelFormsOn, instructionOn, guessedOn, guessOn, assignedOn, behindOn, declarationOn, declared, noneBegins};
 use number::Number;
 use record::Record;
 use record::kinds;
-use record::kinds::Kind;
+use record::kinds::Word;
 use text::Label;
 use text::Stand;
 
@@ -193,14 +193,14 @@ fn may_stand(text: &[u8], stand: Stand, kind: u8) -> bool
     kinds::may_begin(kind, text[at], text::byte_at(text, at + 1))
 }
 
-// The word of a kind.
-fn keyword(text: &[u8], stand: Stand, k: Kind) -> Stand
-    requires { ⌜ k .len ≤ length (k .word) ⌝ }
-    ensures { λ r. ⌜ r ≡ wordOn (now (text .entry)) stand (take (k .len) (k .word)) ⌝ }
+// A word in its field.
+fn keyword(text: &[u8], stand: Stand, word: Word) -> Stand
+    requires { ⌜ word .1 ≤ length (word .0) ⌝ }
+    ensures { λ r. ⌜ r ≡ wordOn (now (text .entry)) stand (take (word .1) (word .0)) ⌝ }
 {
-    let word = k.word;
-    let len = k.len;
-    text::word(text, stand, &word[..len])
+    let field = word.0;
+    let len = word.1;
+    text::word(text, stand, &field[..len])
 }
 
 // What follows the label of a fixed component: a word, x or y, `=` and a number.
@@ -303,30 +303,32 @@ fn gap(text: &[u8], stand: Stand, on: bool) -> Stand
 }
 
 // A keyword form, by its row in the table.
-fn keyword_form(text: &[u8], stand: Stand, kind: u8) -> Line
+fn keyword_form(kinds: &[[u8; 8]; 26], text: &[u8], stand: Stand, kind: u8) -> Line
+    requires { ⌜ now kinds ≡ table ⌝ }
     ensures { λ r. ⌜ r ≡ keywordOn (now (text .entry)) stand kind ⌝ }
 {
-    let k = kinds::kind_of(kind);
-    let s = keyword(text, stand, k);
+    let labels = kinds::look(kinds, kind, kinds::LABELS);
+    let s = keyword(text, stand, kinds::word_of(kind));
     let s = text::ws(text, s);
     let s = text::byte(text, s, b'(');
     let s = text::ws(text, s);
     let a = text::parse_label(text, s);
     let s = a.then;
-    let b = more(text, s, 1 < k.labels);
+    let b = more(text, s, 1 < labels);
     let s = b.then;
-    let c = more(text, s, 2 < k.labels);
+    let c = more(text, s, 2 < labels);
     let s = c.then;
-    let d = more(text, s, 3 < k.labels);
+    let d = more(text, s, 3 < labels);
     let s = d.then;
-    let n = number_part(text, s, k.number);
+    let n = number_part(text, s, kinds::look(kinds, kind, kinds::SORT));
     let s = n.then;
-    let s = gap(text, s, k.gap);
+    let spelling = kinds::look(kinds, kind, kinds::SPELLING);
+    let s = gap(text, s, spelling == kinds::GAP);
     let then = text::byte(text, s, b')');
     let first = Record {
         kind,
         third: n.third,
-        count: k.labels,
+        count: labels,
         start0: a.start,
         len0: a.len,
         start1: b.start,
@@ -342,12 +344,12 @@ fn keyword_form(text: &[u8], stand: Stand, kind: u8) -> Line
 }
 
 // A keyword form, where its word may stand there.
-fn try_keyword(text: &[u8], stand: Stand, kind: u8) -> Line
-    requires { ⌜ 2 ≤ length (wordOf kind) ⌝ }
+fn try_keyword(kinds: &[[u8; 8]; 26], text: &[u8], stand: Stand, kind: u8) -> Line
+    requires { ⌜ (now kinds ≡ table) × (2 ≤ length (wordOf kind)) ⌝ }
     ensures { λ r. ⌜ r ≡ keywordOn (now (text .entry)) stand kind ⌝ }
 {
     if may_stand(text, stand, kind) {
-        return keyword_form(text, stand, kind);
+        return keyword_form(kinds, text, stand, kind);
     }
     no_line(Stand::Nothing)
 }
@@ -373,12 +375,13 @@ fn start_of(b: u8) -> usize
 }
 
 // The first keyword form that reads at a place.
-fn keyword_forms(text: &[u8], at: usize) -> Line
+fn keyword_forms(kinds: &[[u8; 8]; 26], text: &[u8], at: usize) -> Line
+    requires { ⌜ now kinds ≡ table ⌝ }
     ensures { λ r. ⌜ r ≡ firstOf (now (text .entry)) (At at) order ⌝ }
 {
     let mut i = start_of(text::byte_at(text, at));
     while i < 18 {
-        let line = try_keyword(text, Stand::At(at), ORDER[i]);
+        let line = try_keyword(kinds, text, Stand::At(at), ORDER[i]);
         let then = line.then;
         let Stand::Nothing = then else {
             return line;
@@ -389,7 +392,8 @@ fn keyword_forms(text: &[u8], at: usize) -> Line
 }
 
 // An assignment, and then the forms that begin with a keyword.
-fn assign_forms(text: &[u8], at: usize, l: Label) -> Line
+fn assign_forms(kinds: &[[u8; 8]; 26], text: &[u8], at: usize, l: Label) -> Line
+    requires { ⌜ now kinds ≡ table ⌝ }
     ensures { λ r. ⌜ r ≡ assignedOn (now (text .entry)) (At at) l ⌝ }
 {
     let line = assign_point(text, l);
@@ -397,11 +401,12 @@ fn assign_forms(text: &[u8], at: usize, l: Label) -> Line
     let Stand::Nothing = then else {
         return line;
     };
-    keyword_forms(text, at)
+    keyword_forms(kinds, text, at)
 }
 
 // The forms that begin with a label, and then those that begin with a keyword.
-fn dotted_forms(text: &[u8], at: usize, l: Label) -> Line
+fn dotted_forms(kinds: &[[u8; 8]; 26], text: &[u8], at: usize, l: Label) -> Line
+    requires { ⌜ now kinds ≡ table ⌝ }
     ensures { λ r. ⌜ r ≡ behindOn (now (text .entry)) (At at) l ⌝ }
 {
     let line = fix_component(text, l, 4, b".");
@@ -414,29 +419,30 @@ fn dotted_forms(text: &[u8], at: usize, l: Label) -> Line
     let Stand::Nothing = then else {
         return line;
     };
-    assign_forms(text, at, l)
+    assign_forms(kinds, text, at, l)
 }
 
 // The same by the byte behind the label: a point, or a bracket or a low line, which tells a keyword.
-fn label_forms(text: &[u8], at: usize) -> Line
+fn label_forms(kinds: &[[u8; 8]; 26], text: &[u8], at: usize) -> Line
+    requires { ⌜ now kinds ≡ table ⌝ }
     ensures { λ r. ⌜ r ≡ labelFormsOn (now (text .entry)) (At at) ⌝ }
 {
     let l = text::parse_label(text, Stand::At(at));
     let then = l.then;
     let Stand::At(next) = then else {
-        return dotted_forms(text, at, l);
+        return dotted_forms(kinds, text, at, l);
     };
     let b = text::byte_at(text, next);
     if b == b'.' {
-        return dotted_forms(text, at, l);
+        return dotted_forms(kinds, text, at, l);
     }
     if b == b'(' {
-        return keyword_forms(text, at);
+        return keyword_forms(kinds, text, at);
     }
     if b == b'_' {
-        return keyword_forms(text, at);
+        return keyword_forms(kinds, text, at);
     }
-    assign_forms(text, at, l)
+    assign_forms(kinds, text, at, l)
 }
 
 // The word of a declaration and its label; the space between them may be missing.
@@ -452,7 +458,7 @@ fn declare(text: &[u8], at: usize, kind: u8) -> Declared
             then: Stand::Nothing,
         };
     }
-    let s = keyword(text, Stand::At(at), kinds::kind_of(kind));
+    let s = keyword(text, Stand::At(at), kinds::word_of(kind));
     let s = text::ws(text, s);
     let l = text::parse_label(text, s);
     let then = l.then;
@@ -487,7 +493,8 @@ fn declaration(text: &[u8], at: usize) -> Declared
 }
 
 // An instruction: spaces, then the first form that reads.
-pub(crate) fn parse_instruction(text: &[u8], stand: Stand) -> Line
+pub(crate) fn parse_instruction(kinds: &[[u8; 8]; 26], text: &[u8], stand: Stand) -> Line
+    requires { ⌜ now kinds ≡ table ⌝ }
     ensures { λ r. ⌜ r ≡ instructionOn (now (text .entry)) stand ⌝ }
 {
     let s = text::ws(text, stand);
@@ -504,7 +511,7 @@ pub(crate) fn parse_instruction(text: &[u8], stand: Stand) -> Line
         };
         return line_of(one_label(d.kind, 0, l, 0, 0), false, then);
     };
-    label_forms(text, at)
+    label_forms(kinds, text, at)
 }
 
 // What follows the label of a guess: a point pair, else a number.

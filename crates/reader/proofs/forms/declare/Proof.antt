@@ -3,8 +3,9 @@ use borrow.Author.Needs.{needs}
 use borrow.Author.Tests.{not-true}
 use mathlib.Core.Path.{sym}
 use Rattle.text.specs.declared.Stand.the-variants.{At}
+use Rattle.record.specs.Kinds.{wordOf}
 use Rattle.reader.specs.Forms.{declareOn}
-use Rattle.reader.proofs.Table.{word-fits}
+use Rattle.reader.proofs.Table.{word-fits, word-begins}
 use Rattle.reader.proofs.Words.{no-declaration}
 use Rattle.reader.proofs.forms.declare.Statement.{statement}
 use Rattle.reader.proofs.forms.declare.Tie as tie
@@ -15,13 +16,13 @@ returns c =
     sym (no-declaration (a .text .now) (At (a .at)) (a .kind) (c .before .may-stand .ensures (not-true _ (c .if1 .taken))))
 
 keyword-requires : tie.Need-keyword-requires
-keyword-requires c κs = rw (c .kind-of .ensures) (word-fits (c .before .before .before .before .args .kind))
+keyword-requires c κs = word-fits (wordOf (c .before .before .before .before .args .kind)) (c .word-of .result) (c .word-of .ensures)
 
 returns-2 : tie.Need-returns-2
 unfolding declareOn
 returns-2 c =
     rw (
-      ← c .before .before .before .kind-of .ensures,
+      ← word-begins (wordOf (c .before .before .before .before .before .before .before .args .kind)) (c .before .before .before .word-of .result) (c .before .before .before .word-of .ensures),
       ← c .before .before .keyword .ensures,
       ← c .before .ws .ensures,
       ← c .parse-label .ensures,

@@ -1,31 +1,46 @@
--- `reader::forms::keyword_form` meets its contract: it is its definition, call by call. Assumes nothing.
+-- `reader::forms::keyword_form` meets its contract: it is its definition, call by call, with what it looks up in the table. Assumes nothing.
 use borrow.Author.Needs.{needs}
+use mathlib.Core.Path.{_≡_, ap, _∙_}
+use mathlib.Core.List.{List}
+use Prim.Native.Nat.{ℕ}
+use lib.Dec.{eqb}
+use Rattle.record.specs.Kinds.{kindAt, wordOf, with-gap, cell}
+use Rattle.record.proofs.Cells.{labels-is, number-is, gap-is}
 use Rattle.reader.specs.Forms.{keywordOn}
-use Rattle.reader.proofs.Table.{word-fits}
+use Rattle.reader.proofs.Table.{word-fits, word-begins}
 use Rattle.reader.proofs.forms.keyword_form.Statement.{statement}
 use Rattle.reader.proofs.forms.keyword_form.Tie as tie
 
 keyword-requires : tie.Need-keyword-requires
-keyword-requires c κs = rw (c .kind-of .ensures) (word-fits (c .before .before .args .kind))
+keyword-requires c κs = word-fits (wordOf (c .before .before .before .args .kind)) (c .word-of .result) (c .word-of .ensures)
 
 returns : tie.Need-returns
 unfolding keywordOn
 returns c =
+    let start = c .before .before .before .before .before .before .before .before .before .before .before .before .before .before .before .before .before in
+    let k = start .args .kind in
+    let labels : c .before .before .before .before .before .before .before .before .before .before .before .before .before .before .before .look .result ≡ kindAt k .labels
+    = c .before .before .before .before .before .before .before .before .before .before .before .before .before .before .before .look .ensures ∙ ap (λ (t : List (List ℕ)). cell t k 0) (start .pre) ∙ labels-is k in
+    let sort : c .before .before .before .before .before .look2 .result ≡ kindAt k .number = c .before .before .before .before .before .look2 .ensures ∙ ap (λ (t : List (List ℕ)). cell t k 6) (start .pre) ∙ number-is k in
+    let spelling : eqb (c .before .before .before .look3 .result) with-gap ≡ kindAt k .gap = ap (λ (n : ℕ). eqb n with-gap) (c .before .before .before .look3 .ensures ∙ ap (λ (t : List (List ℕ)). cell t k 7) (start .pre)) ∙ gap-is k in
     rw (
-      ← c .before .before .before .before .before .before .before .before .before .before .before .before .before .before .before .kind-of .ensures,
-      ← c .before .before .before .before .before .before .before .before .before .before .before .before .before .before .keyword .ensures,
-      ← c .before .before .before .before .before .before .before .before .before .before .before .before .before .ws .ensures,
-      ← c .before .before .before .before .before .before .before .before .before .before .before .before .byte .ensures,
-      ← c .before .before .before .before .before .before .before .before .before .before .before .ws2 .ensures,
-      ← c .before .before .before .before .before .before .before .before .before .before .parse-label .ensures,
+      ← labels,
+      ← sort,
+      ← spelling,
+      ← word-begins (wordOf k) (c .before .before .before .before .before .before .before .before .before .before .before .before .before .before .word-of .result) (c .before .before .before .before .before .before .before .before .before .before .before .before .before .before .word-of .ensures),
+      ← c .before .before .before .before .before .before .before .before .before .before .before .before .before .keyword .ensures,
+      ← c .before .before .before .before .before .before .before .before .before .before .before .before .ws .ensures,
+      ← c .before .before .before .before .before .before .before .before .before .before .before .byte .ensures,
+      ← c .before .before .before .before .before .before .before .before .before .before .ws2 .ensures,
+      ← c .before .before .before .before .before .before .before .before .before .parse-label .ensures,
       ← c .before .before .before .before .before .before .before .before .more .ensures,
-      ← c .before .before .before .before .before .before .more2 .ensures,
-      ← c .before .before .before .before .more3 .ensures,
-      ← c .before .before .before .number-part .ensures,
+      ← c .before .before .before .before .before .before .before .more2 .ensures,
+      ← c .before .before .before .before .before .before .more3 .ensures,
+      ← c .before .before .before .before .number-part .ensures,
       ← c .before .before .gap .ensures,
       ← c .before .byte2 .ensures,
     )
     (c .line-of .ensures)
 
 pub keyword-form-spec : {M : Type 1} → statement M
-keyword-form-spec = tie.close (tie.spec (λ c κs. search needs) keyword-requires (λ c κs. search needs) (λ c κs. search needs) (λ c κs. search needs) (λ c κs. search needs) (λ c κs. search needs) (λ c κs. search needs) (λ c κs. search needs) (λ c κs. search needs) (λ c κs. search needs) (λ c κs. search needs) (λ c κs. search needs) returns)
+keyword-form-spec = tie.close (tie.spec (λ c κs. search needs) (λ c κs. search needs) keyword-requires (λ c κs. search needs) (λ c κs. search needs) (λ c κs. search needs) (λ c κs. search needs) (λ c κs. search needs) (λ c κs. search needs) (λ c κs. search needs) (λ c κs. search needs) (λ c κs. search needs) (λ c κs. search needs) (λ c κs. search needs) (λ c κs. search needs) (λ c κs. search needs) returns)

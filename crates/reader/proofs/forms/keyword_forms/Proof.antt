@@ -13,10 +13,10 @@ use Rattle.reader.proofs.forms.keyword_forms.Statement.{statement}
 use Rattle.reader.proofs.forms.keyword_forms.Tie as tie
 
 abbrev Inv-loop : tie.InvT-loop
-Inv-loop text at i₀ i = firstOf text (At at) order ≡ firstOf text (At at) (drop i order)
+Inv-loop kinds text at i₀ i = firstOf text (At at) order ≡ firstOf text (At at) (drop i order)
 
 abbrev μ-loop : tie.MeasureT-loop
-μ-loop text at i₀ i = 18 - i
+μ-loop kinds text at i₀ i = 18 - i
 
 loop-holds : tie.Need-loop-holds Inv-loop μ-loop
 loop-holds c =
@@ -24,7 +24,7 @@ loop-holds c =
     skipped (a .text .now) (a .at) (c .start-of .result) (rw (← c .before .byte-at .ensures) (c .start-of .ensures))
 
 try-keyword-requires : tie.Need-try-keyword-requires Inv-loop μ-loop
-try-keyword-requires c κs = keyword-long (c .before .loop .i) (c .loop-test .taken)
+try-keyword-requires c κs = (c .before .before .before .before .before .pre, keyword-long (c .before .loop .i) (c .loop-test .taken))
 
 returns : tie.Need-returns Inv-loop μ-loop
 returns c =
