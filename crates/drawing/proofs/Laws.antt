@@ -1,7 +1,7 @@
--- Labels with a suffix behind them, searches for any, tests put together, counts, and the codes of a kind. Assumes nothing.
+-- Labels with a suffix behind them, searches for any, tests put together, counts, and what the table of kinds tells. Assumes nothing.
 use mathlib.Core.Path.{_≡_, refl, sym, ap, _∙_}
 use mathlib.Core.Bool.{Bool, true, false, _||_, cond, true≢false}
-use mathlib.Core.List.{_++_}
+use mathlib.Core.List.{List, _++_}
 use Prim.Native.Nat.{ℕ, zero, suc, _+_, _-_, _≤_, _<_}
 use native.Mathlib.Numerals.{add-one}
 use native.Mathlib.Omega.{arith}
@@ -12,11 +12,12 @@ use borrow.Author.Tests.{leb-true}
 use Rattle.ground.proofs.Lists.{all-at}
 use Rattle.refusal.specs.First.{EachBelow, anyBelow}
 use Rattle.refusal.proofs.Says.{refuted, says-once, says-so, says-and, says-iff, says-eq, says-le, says-any}
-use Rattle.record.specs.declared.kinds.Kind.{Kind}
-use Rattle.record.specs.Kinds.{kinds, kindAt, noKind}
+use Rattle.record.specs.Kinds.{Kind, kinds, kindAt, noKind, labelsColumn, needsColumn, table, cell}
 use Rattle.record.specs.Entry.{Label}
+use Rattle.record.proofs.Cells.{labels-is, needs-is}
 use Rattle.index.specs.Labels.{same, within}
 use Rattle.index.proofs.Laws.{says-same}
+use Rattle.drawing.specs.Needs.{codeAt}
 use Rattle.drawing.specs.Check.{countBelow}
 
 -- ---- a name with a suffix behind it
@@ -85,8 +86,18 @@ pub one-small : (b : Bool) → cond b 1 0 ≤ 1
 one-small true = omega arith
 one-small false = omega arith
 
--- ---- the codes of a kind
+-- ---- the table of kinds
 
 -- no row of the table has more than four labels: one computed test
 pub four-labels : (k : ℕ) → kindAt k .labels ≤ 4
 four-labels k = leb-true (kindAt k .labels) 4 (all-at (λ (r : Kind). leb (r .labels) 4) kinds noKind refl refl k)
+
+-- the table as it is lent
+module _ (lent : List (List ℕ)) (is : lent ≡ table) (kind : ℕ) where
+  -- how many labels a kind has
+  pub labels-read : (n : ℕ) → n ≡ cell lent kind labelsColumn → n ≡ kindAt kind .labels
+  labels-read n e = e ∙ rw is (labels-is kind)
+
+  -- the code of a label's place
+  pub code-read : (q code : ℕ) → q < 4 → code ≡ cell lent kind (needsColumn + q) → code ≡ codeAt kind q
+  code-read q code h e = e ∙ rw is (needs-is kind q h)

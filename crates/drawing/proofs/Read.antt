@@ -5,7 +5,7 @@ use mathlib.Core.Bool.{Bool, true, false, not, _||_}
 use mathlib.Core.List.{List, [], _∷_, _++_}
 use Prim.Native.Nat.{ℕ, zero, suc, _≤_, _<_}
 use native.Mathlib.Omega.{arith}
-use lib.ListN.{length, getD}
+use lib.ListN.{length}
 use lib.Dec.{ltb}
 use borrow.Author.Tests.{ne-eqb}
 use Rattle.ground.specs.Words.{bytes}
@@ -19,7 +19,7 @@ use Rattle.index.specs.Chains.{Chained, walkOf}
 use Rattle.index.proofs.Laws.{says-same}
 use Rattle.index.proofs.Drawn.{drawn-length, drawn-kind, drawn-label}
 use Rattle.index.proofs.Found.{found-below}
-use Rattle.drawing.specs.Needs.{Choice, declaring, needOf}
+use Rattle.drawing.specs.Needs.{Choice, declaring, needOf, codeAt}
 use Rattle.drawing.specs.Check as check
 use check.{twice, namedAt, named, meets, guessAt, guessed, wrongPlace, wrongLabelTest, noSuchPartTest, withoutGuessTest}
 use Rattle.drawing.proofs.Laws.{suffix-cancel, any-same, or-false, within-one}
@@ -53,9 +53,9 @@ module _ (text bs : List ℕ) (i kind : ℕ) (k : kind ≡ decodeAt bs i .kind) 
     label-is = drawn-label text bs i q ∙ sym n
 
     -- label q of the record is not what the code of its place needs
-    pub wrong-place-is : (codes : List ℕ) (m : Bool) → codes ≡ kindAt kind .needs → m ≡ meets (drawn text bs) (needOf (getD codes q 0)) l → not m ≡ wrongPlace (drawn text bs) i q
+    pub wrong-place-is : (code : ℕ) (m : Bool) → code ≡ codeAt kind q → m ≡ meets (drawn text bs) (needOf code) l → not m ≡ wrongPlace (drawn text bs) i q
     unfolding wrongPlace
-    wrong-place-is codes m ec em = rw (kind-is, label-is, ← ec, ← em) refl
+    wrong-place-is code m ec em = rw (kind-is, label-is, ← ec, ← em) refl
 
   module _ (low high : ℕ) where
     pub twice-no : within low high kind ≡ false → false ≡ twice (drawn text bs) low high i

@@ -1,8 +1,8 @@
 // The faults 31 to 35 at a record, and the lowest record where one holds.
 ghost use mathlib.Core.Path.{_≡_};
-ghost use Prim.Native.Nat.{_≤_, _<_};
+ghost use Prim.Native.Nat.{_<_};
 ghost use Rattle.refusal.specs.First.{anyBelow};
-ghost use Rattle.record.specs.Kinds.{kindAt};
+ghost use Rattle.record.specs.Kinds.{kindAt, table};
 ghost use Rattle.record.specs.Decode.{countOf as records-in, decodeAt};
 ghost use Rattle.index.specs.Labels.{drawn, lowestOr};
 ghost use Rattle.index.specs.Chains.{Chained};
@@ -22,25 +22,29 @@ use crate::search::twice;
 use index::labels::kind_at;
 use index::labels::label_at;
 use record::SIZE;
-use record::kinds::kind_of;
+use record::kinds::LABELS;
+use record::kinds::NEEDS;
+use record::kinds::look;
 
-// Whether one of the first n labels of record i is not what the code of its place needs.
+// Whether one of the labels of record i, which is of this kind, is not what its place needs.
 fn any_wrong(
+    kinds: &[[u8; 8]; 26],
     text: &[u8],
     records: &[u8],
     heads: &[u16],
     nexts: &[u16],
-    codes: [u8; 4],
+    kind: u8,
     i: usize,
-    n: usize,
 ) -> bool
-    requires { ⌜ Chained (drawn (now text) (now records)) 1 3 (now heads) (now nexts) × (codes ≡ kindAt (decodeAt (now records) i .kind) .needs) × (n ≤ 4) ⌝ }
-    ensures { λ r. ⌜ r ≡ anyBelow n (wrongPlace (drawn (now (text .entry)) (now (records .entry))) i) ⌝ }
+    requires { ⌜ (now kinds ≡ table) × Chained (drawn (now text) (now records)) 1 3 (now heads) (now nexts) × (kind ≡ decodeAt (now records) i .kind) ⌝ }
+    ensures { λ r. ⌜ r ≡ anyBelow (kindAt kind .labels) (wrongPlace (drawn (now (text .entry)) (now (records .entry))) i) ⌝ }
 {
+    let n = look(kinds, kind, LABELS) as usize;
     let mut q = 0;
     while q < n {
         let label = label_at(text, records, i, q);
-        if !meets(text, records, heads, nexts, codes[q], label) {
+        let code = look(kinds, kind, NEEDS + q);
+        if !meets(text, records, heads, nexts, code, label) {
             return true;
         }
         q += 1;
@@ -49,29 +53,41 @@ fn any_wrong(
 }
 
 // 32 at record i.
-fn wrong_label(text: &[u8], records: &[u8], heads: &[u16], nexts: &[u16], i: usize) -> bool
-    requires { ⌜ Chained (drawn (now text) (now records)) 1 3 (now heads) (now nexts) ⌝ }
+fn wrong_label(
+    kinds: &[[u8; 8]; 26],
+    text: &[u8],
+    records: &[u8],
+    heads: &[u16],
+    nexts: &[u16],
+    i: usize,
+) -> bool
+    requires { ⌜ (now kinds ≡ table) × Chained (drawn (now text) (now records)) 1 3 (now heads) (now nexts) ⌝ }
     ensures { λ r. ⌜ r ≡ wrongLabelTest (drawn (now (text .entry)) (now (records .entry))) i ⌝ }
 {
     let kind = kind_at(records, i);
     if (FIRST_RULE <= kind) & (kind <= LAST_RULE) {
-        let k = kind_of(kind);
-        let codes = k.needs;
-        return any_wrong(text, records, heads, nexts, codes, i, k.labels as usize);
+        return any_wrong(kinds, text, records, heads, nexts, kind, i);
     }
     false
 }
 
 // 33 at record i.
-fn no_such_part(text: &[u8], records: &[u8], heads: &[u16], nexts: &[u16], i: usize) -> bool
-    requires { ⌜ Chained (drawn (now text) (now records)) 1 3 (now heads) (now nexts) ⌝ }
+fn no_such_part(
+    kinds: &[[u8; 8]; 26],
+    text: &[u8],
+    records: &[u8],
+    heads: &[u16],
+    nexts: &[u16],
+    i: usize,
+) -> bool
+    requires { ⌜ (now kinds ≡ table) × Chained (drawn (now text) (now records)) 1 3 (now heads) (now nexts) ⌝ }
     ensures { λ r. ⌜ r ≡ noSuchPartTest (drawn (now (text .entry)) (now (records .entry))) i ⌝ }
 {
     let kind = kind_at(records, i);
     if (PAIR_GUESS <= kind) & (kind <= NUMBER_GUESS) {
-        let k = kind_of(kind);
         let label = label_at(text, records, i, 0);
-        return !meets(text, records, heads, nexts, k.needs[0], label);
+        let code = look(kinds, kind, NEEDS);
+        return !meets(text, records, heads, nexts, code, label);
     }
     false
 }
@@ -103,6 +119,7 @@ fn without_guess(text: &[u8], records: &[u8], heads: &[u16], nexts: &[u16], i: u
 
 // Fault number f behind 30 at record i.
 fn bad(
+    kinds: &[[u8; 8]; 26],
     text: &[u8],
     records: &[u8],
     heads: &[u16],
@@ -112,13 +129,13 @@ fn bad(
     f: usize,
     i: usize,
 ) -> bool
-    requires { ⌜ Tables (drawn (now text) (now records)) (now heads) (now nexts) (now «guess_heads») (now «guess_nexts») × (f < 5) × (i < records-in (now records)) ⌝ }
+    requires { ⌜ Tables (drawn (now text) (now records)) (now kinds) (now heads) (now nexts) (now «guess_heads») (now «guess_nexts») × (f < 5) × (i < records-in (now records)) ⌝ }
     ensures { λ r. ⌜ r ≡ test (drawn (now (text .entry)) (now (records .entry))) (faultAt f) i ⌝ }
 {
     match f {
         0 => twice(text, records, NEW_POINT, NEW_ARC, heads, nexts, i),
-        1 => wrong_label(text, records, heads, nexts, i),
-        2 => no_such_part(text, records, heads, nexts, i),
+        1 => wrong_label(kinds, text, records, heads, nexts, i),
+        2 => no_such_part(kinds, text, records, heads, nexts, i),
         3 => twice(
             text,
             records,
@@ -134,6 +151,7 @@ fn bad(
 
 // The lowest record where fault number f holds, or the number of records.
 pub(crate) fn lowest_bad(
+    kinds: &[[u8; 8]; 26],
     text: &[u8],
     records: &[u8],
     heads: &[u16],
@@ -142,13 +160,23 @@ pub(crate) fn lowest_bad(
     guess_nexts: &[u16],
     f: usize,
 ) -> usize
-    requires { ⌜ Tables (drawn (now text) (now records)) (now heads) (now nexts) (now «guess_heads») (now «guess_nexts») × (f < 5) ⌝ }
+    requires { ⌜ Tables (drawn (now text) (now records)) (now kinds) (now heads) (now nexts) (now «guess_heads») (now «guess_nexts») × (f < 5) ⌝ }
     ensures { λ r. ⌜ r ≡ lowestOr (records-in (now (records .entry))) (test (drawn (now (text .entry)) (now (records .entry))) (faultAt f)) ⌝ }
 {
     let n = records.len() / SIZE;
     let mut i = 0;
     while i < n {
-        if bad(text, records, heads, nexts, guess_heads, guess_nexts, f, i) {
+        if bad(
+            kinds,
+            text,
+            records,
+            heads,
+            nexts,
+            guess_heads,
+            guess_nexts,
+            f,
+            i,
+        ) {
             return i;
         }
         i += 1;

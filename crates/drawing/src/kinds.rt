@@ -7,11 +7,6 @@ pub const NEW_CIRCLE: u8 = 2;
 
 pub const NEW_ARC: u8 = 3;
 
-// The rules that name one component: of a part, and of a shape's center.
-pub const FIX_COMPONENT: u8 = 4;
-
-pub const FIX_CENTER: u8 = 18;
-
 // The first and the last kind of a rule.
 pub const FIRST_RULE: u8 = 4;
 

@@ -25,6 +25,7 @@ use record::SIZE;
 use record::formed::Formed;
 use record::formed::MOST;
 use record::formed::well_formed;
+use record::kinds::KINDS;
 
 // The faults behind 30, and the number of the first of them.
 const FAULTS: usize = 5;
@@ -69,6 +70,7 @@ fn count(records: &[u8], low: u8, high: u8) -> usize
 
 // The faults behind 30 of a well formed list by number, and within one the lowest record.
 fn check_by(
+    kinds: &[[u8; 8]; 26],
     text: &[u8],
     records: &[u8],
     heads: &[u16],
@@ -76,13 +78,22 @@ fn check_by(
     guess_heads: &[u16],
     guess_nexts: &[u16],
 ) -> Checked
-    requires { ⌜ WellFormed (now text) (now records) × Tables (drawn (now text) (now records)) (now heads) (now nexts) (now «guess_heads») (now «guess_nexts») ⌝ }
+    requires { ⌜ WellFormed (now text) (now records) × Tables (drawn (now text) (now records)) (now kinds) (now heads) (now nexts) (now «guess_heads») (now «guess_nexts») ⌝ }
     ensures { λ r. ⌜ r ≡ checkedOf (entries (now (text .entry)) (now (records .entry))) ⌝ }
 {
     let n = records.len() / SIZE;
     let mut f = 0;
     while f < FAULTS {
-        let i = lowest_bad(text, records, heads, nexts, guess_heads, guess_nexts, f);
+        let i = lowest_bad(
+            kinds,
+            text,
+            records,
+            heads,
+            nexts,
+            guess_heads,
+            guess_nexts,
+            f,
+        );
         if i < n {
             return Checked::Refused {
                 number: FIRST_FAULT + (f as u8),
@@ -106,6 +117,7 @@ pub fn check(text: &[u8], records: &[u8]) -> Checked
     if let Formed::Refused { number, place } = well_formed(text, records) {
         return Checked::Refused { number, place };
     }
+    let kinds = KINDS;
     let mut heads = [0u16; HEADS];
     let mut nexts = [0u16; MOST];
     chain(text, records, NEW_POINT, NEW_ARC, &mut heads, &mut nexts);
@@ -119,5 +131,13 @@ pub fn check(text: &[u8], records: &[u8]) -> Checked
         &mut guess_heads,
         &mut guess_nexts,
     );
-    check_by(text, records, &heads, &nexts, &guess_heads, &guess_nexts)
+    check_by(
+        &kinds,
+        text,
+        records,
+        &heads,
+        &nexts,
+        &guess_heads,
+        &guess_nexts,
+    )
 }

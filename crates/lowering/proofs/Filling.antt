@@ -18,20 +18,22 @@ use Rattle.layout.specs.declared.Layout.{Layout}
 use Rattle.layout.specs.Push.{over}
 use Rattle.layout.proofs.Onward.{over-front}
 use Rattle.record.specs.declared.Record.{Record}
+use Rattle.record.specs.Kinds.{kindAt, labelsColumn, needsColumn, table, cell}
 use Rattle.record.specs.Decode.{decodeAt}
-use Rattle.record.specs.Entry.{Label, Entry, entryAt, labelNo, entryOf, named}
-use Rattle.record.proofs.UpTo.{length-up-to}
-use Rattle.index.specs.Labels.{drawn, kindNo, within}
+use Rattle.record.specs.Entry.{Label, Entry, entryAt, labelNo, entryOf}
+use Rattle.index.specs.Labels.{drawn, kindNo}
 use Rattle.index.proofs.Drawn.{drawn-at}
 use Rattle.drawing.specs.Faults.{Rule}
+use Rattle.drawing.proofs.Laws.{four-labels, labels-read, code-read}
 use Rattle.lowering.specs.declared.spans.Span.{Span}
 use Rattle.lowering.specs.Slots.{flat}
-use Rattle.lowering.specs.Rows.{mostIds, rowBytes, encodeRow}
+use Rattle.lowering.specs.Rows.{Naming, namingOf, mostIds, rowBytes, encodeRow}
 use Rattle.lowering.specs.Lower.{onto}
-use Rattle.lowering.specs.Steps.{spanOf, sixOf, numberNo, spanIds, labelIds, rowIds, rowBytesOf, rowAt, rowIf, rowsBelow, Tables, Addable, Added, Sayable, Begins, Writing, Wrote, Writable}
+use Rattle.lowering.specs.Steps.{namingBy, spanOf, sixOf, numberNo, spanIds, labelIds, rowIds, rowBytesOf, rowAt, rowIf, rowsBelow, Tables, Addable, Added, Sayable, Begins, Writing, Wrote, Writable}
 use Rattle.lowering.proofs.Lists.{flat-suc, flat-append}
 use Rattle.lowering.proofs.Counts.{says-within}
 use Rattle.lowering.proofs.Bytes.{length-row}
+use Rattle.lowering.proofs.Naming.{naming-is}
 use Rattle.lowering.proofs.Spanning.{span-inside, label-length}
 
 -- ---- an entry by its record
@@ -40,55 +42,58 @@ module _ (text records : List ℕ) (i : ℕ) (r : Record) (e : r ≡ decodeAt re
   pub entry-is : entryAt (drawn text records) i ≡ entryOf text r
   entry-is = drawn-at text records i ∙ ap (entryOf text) (sym e)
 
-  pub labels-count : length (entryAt (drawn text records) i .labels) ≡ r .count
-  unfolding entryOf
-  labels-count = ap (λ (t : Entry). length (t .labels)) entry-is ∙ length-up-to (r .count) (named text r)
+  -- what the table of kinds, as it is lent, tells of an entry that can be said
+  module _ (lent : List (List ℕ)) (is-table : lent ≡ table) (l : Layout) (ids : List ℕ) (t : Sayable (drawn text records) l ids i) where
+    kind-labels : length (entryAt (drawn text records) i .labels) ≡ kindAt (r .kind) .labels
+    unfolding entryOf
+    kind-labels = t .count ∙ ap (λ (u : Entry). kindAt (u .kind) .labels) entry-is
 
-  pub label-inside : (q : ℕ) → q < r .count → q < length (entryAt (drawn text records) i .labels)
-  label-inside q h = omega (arith, labels-count, h)
+    pub labels-count : (n : ℕ) → n ≡ cell lent (r .kind) labelsColumn → length (entryAt (drawn text records) i .labels) ≡ n
+    labels-count n en = kind-labels ∙ sym (labels-read lent is-table (r .kind) n en)
 
-  pub labels-past : (q : ℕ) → r .count ≤ q → length (entryAt (drawn text records) i .labels) ≤ q
-  labels-past q h = omega (arith, labels-count, h)
+    -- label q, by the code of its place
+    module _ (code q : ℕ) (ec : code ≡ cell lent (r .kind) (needsColumn + q)) (h : q < length (entryAt (drawn text records) i .labels)) (name : Label) (en : name ≡ labelNo (entryAt (drawn text records) i) q) where
+      naming-read : namingBy code ≡ namingOf (r .kind)
+      naming-read =
+          let inside : q < kindAt (r .kind) .labels = omega (arith, h, kind-labels) in
+          ap namingBy (code-read lent is-table (r .kind) q code (omega (arith, inside, four-labels (r .kind))) ec) ∙ naming-is (r .kind) q inside
 
-  -- a label of the entry, by the record's kind and third byte
-  pub addable : (l : Layout) (ids : List ℕ) (q : ℕ) {out : List ℕ} {m : ℕ} (name : Label) → name ≡ labelNo (entryAt (drawn text records) i) q → Sayable (drawn text records) l ids i
-      → q < length (entryAt (drawn text records) i .labels) → m + length (labelIds (drawn text records) l ids (entryAt (drawn text records) i) (labelNo (entryAt (drawn text records) i) q)) ≤ length out
-      → Addable (drawn text records) l ids (r .kind) (r .third) name out m
-  unfolding entryOf
-  addable l ids q {out = out} {m = m} name en t h room =
-      let es = drawn text records in
-      let label = labelNo (entryAt es i) q in
-      rw en (subst (λ (u : Entry). Addable es l ids (u .kind) (u .third) label out m) entry-is (record { found = t .found q h; room = room }))
+      pub addable : {out : List ℕ} {m : ℕ} → m + length (labelIds (drawn text records) l ids (entryAt (drawn text records) i) (labelNo (entryAt (drawn text records) i) q)) ≤ length out
+          → Addable (drawn text records) l ids (namingBy code) (r .third) name out m
+      unfolding entryOf
+      addable {out = out} {m = m} room =
+          let es = drawn text records in
+          let label = labelNo (entryAt es i) q in
+          rw (naming-read, en) (subst (λ (u : Entry). Addable es l ids (namingOf (u .kind)) (u .third) label out m) entry-is (record { found = t .found q h; room = room }))
 
-  pub added-of : (l : Layout) (ids : List ℕ) (q : ℕ) {was : List ℕ} {m n : ℕ} {now : List ℕ} (name : Label) → name ≡ labelNo (entryAt (drawn text records) i) q
-      → Added (spanIds (drawn text records) l ids (spanOf (drawn text records) (r .kind) (r .third) name)) was m n now
-      → Added (labelIds (drawn text records) l ids (entryAt (drawn text records) i) (labelNo (entryAt (drawn text records) i) q)) was m n now
-  unfolding entryOf
-  added-of l ids q {was = was} {m = m} {n = n} {now = now} name en a =
-      let es = drawn text records in
-      let label = labelNo (entryAt es i) q in
-      subst (λ (u : Entry). Added (spanIds es l ids (spanOf es (u .kind) (u .third) label)) was m n now) (sym entry-is) (rw en at a)
+      pub added-of : {was : List ℕ} {m n : ℕ} {now : List ℕ} → Added (spanIds (drawn text records) l ids (spanOf (drawn text records) (namingBy code) (r .third) name)) was m n now
+          → Added (labelIds (drawn text records) l ids (entryAt (drawn text records) i) (labelNo (entryAt (drawn text records) i) q)) was m n now
+      unfolding entryOf
+      added-of {was = was} {m = m} {n = n} {now = now} a =
+          let es = drawn text records in
+          let label = labelNo (entryAt es i) q in
+          subst (λ (u : Entry). Added (spanIds es l ids (spanOf es (namingOf (u .kind)) (u .third) label)) was m n now) (sym entry-is) (rw (naming-read, en) at a)
 
 -- ---- the ids of a label
 
 -- the shape that a label names has a number
-pub shape-in : (es : List Entry) (heads nexts numbers : List ℕ) (l : Layout) (ids : List ℕ) (kind third : ℕ) (label : Label) (out : List ℕ) (m : ℕ)
-    → Tables es heads nexts numbers → Addable es l ids kind third label out m → (s : Span) → s ≡ spanOf es kind third label → s .shape < length numbers
-shape-in es heads nexts numbers l ids kind third label out m t a s e = rw e (omega (arith, a .found, t .long))
+pub shape-in : (es : List Entry) (heads nexts numbers : List ℕ) (l : Layout) (ids : List ℕ) (naming : Naming) (third : ℕ) (label : Label) (out : List ℕ) (m : ℕ)
+    → Tables es heads nexts numbers → Addable es l ids naming third label out m → (s : Span) → s ≡ spanOf es naming third label → s .shape < length numbers
+shape-in es heads nexts numbers l ids naming third label out m t a s e = rw e (omega (arith, a .found, t .long))
 
-module _ (es : List Entry) (l : Layout) (ids : List ℕ) (kind third : ℕ) (label : Label) (s : Span) (s-is : s ≡ spanOf es kind third label) where
+module _ (es : List Entry) (l : Layout) (ids : List ℕ) (naming : Naming) (third : ℕ) (label : Label) (s : Span) (s-is : s ≡ spanOf es naming third label) where
   pub span-fits : s .first + s .count ≤ 6
-  span-fits = rw s-is (span-inside es kind third label)
+  span-fits = rw s-is (span-inside es third label naming)
 
-  pub span-count : length (spanIds es l ids (spanOf es kind third label)) ≡ s .count
-  span-count = label-length es l ids kind third label ∙ ap (λ (t : Span). t .count) (sym s-is)
+  pub span-count : length (spanIds es l ids (spanOf es naming third label)) ≡ s .count
+  span-count = label-length es l ids naming third label ∙ ap (λ (t : Span). t .count) (sym s-is)
 
-  piece-is : (six : List ℕ) (k n : ℕ) → six ≡ sixOf l ids k n → k ≡ kindNo es (s .shape) → n ≡ numberNo es (s .shape) → take (s .count) (drop (s .first) six) ≡ spanIds es l ids (spanOf es kind third label)
+  piece-is : (six : List ℕ) (k n : ℕ) → six ≡ sixOf l ids k n → k ≡ kindNo es (s .shape) → n ≡ numberNo es (s .shape) → take (s .count) (drop (s .first) six) ≡ spanIds es l ids (spanOf es naming third label)
   unfolding spanIds
   piece-is six k n e6 ek en = rw (e6, ek, en, s-is) refl
 
   pub added : (six : List ℕ) (k n : ℕ) → six ≡ sixOf l ids k n → k ≡ kindNo es (s .shape) → n ≡ numberNo es (s .shape)
-      → (was : List ℕ) (m : ℕ) (now : List ℕ) → now ≡ over was m (take (s .count) (drop (s .first) six)) → Added (spanIds es l ids (spanOf es kind third label)) was m (m + s .count) now
+      → (was : List ℕ) (m : ℕ) (now : List ℕ) → now ≡ over was m (take (s .count) (drop (s .first) six)) → Added (spanIds es l ids (spanOf es naming third label)) was m (m + s .count) now
   added six k n e6 ek en was m now e = record { count-is = omega (arith, span-count); list-is = e ∙ ap (over was m) (piece-is six k n e6 ek en) }
 
 -- ---- the ids of a row

@@ -20,9 +20,10 @@ use Rattle.record.specs.Entry.{Label, Entry}
 use Rattle.index.specs.Labels.{kindNo}
 use Rattle.lowering.specs.declared.spans.Span.{Span}
 use Rattle.lowering.specs.Slots.{y-axis}
-use Rattle.lowering.specs.Steps.{byKind, shapeNo, endsIn, wholeSpan, centerSpan, pointSpan, partSpan, spanOf, pointSix, circleSix, arcSix, sixOf, numberNo, spanIds}
+use Rattle.lowering.specs.Rows.{Naming, whole, part, center}
+use Rattle.lowering.specs.Steps.{byKind, shapeNo, endsIn, centerSpan, pointSpan, spanOf, pointSix, circleSix, arcSix, sixOf, numberNo, spanIds}
 
--- what holds of three holds of the one that a kind chooses
+-- what holds of three holds of the one that a number chooses
 by-kind : {A : Type 0} (P : A → Type 0) (kind m n : ℕ) (x y z : A) → P x → P y → P z → P (byKind kind m n x y z)
 by-kind P kind m n x y z a b c = go (eqb kind m) (eqb kind n)
   where
@@ -40,7 +41,7 @@ either-le false x y m h g = g
 abbrev Inside : Span → Type 0
 Inside s = s .first + s .count ≤ 6
 
-module _ (es : List Entry) (kind third : ℕ) (l : Label) where
+module _ (es : List Entry) (third : ℕ) (l : Label) where
   axis-small : cond (eqb third y-axis) 1 0 ≤ 1
   axis-small = either-le (eqb third y-axis) 1 0 1 (omega arith) (omega arith)
 
@@ -51,11 +52,11 @@ module _ (es : List Entry) (kind third : ℕ) (l : Label) where
   part-inside true name = center-inside name
   part-inside false name = omega (arith, axis-small)
 
-  pub span-inside : spanOf es kind third l .first + spanOf es kind third l .count ≤ 6
+  pub span-inside : (n : Naming) → spanOf es n third l .first + spanOf es n third l .count ≤ 6
   unfolding spanOf
-  span-inside =
-      by-kind Inside kind 4 18 (partSpan es third l) (centerSpan es third l) (wholeSpan es l) (part-inside (endsIn l (bytes ".center")) _) (center-inside l)
-      (by-kind (λ (n : ℕ). 0 + n ≤ 6) (kindNo es (shapeNo es l)) 1 2 2 3 6 (omega arith) (omega arith) (omega arith))
+  span-inside part = part-inside (endsIn l (bytes ".center")) _
+  span-inside center = center-inside l
+  span-inside whole = by-kind (λ (n : ℕ). 0 + n ≤ 6) (kindNo es (shapeNo es l)) 1 2 2 3 6 (omega arith) (omega arith) (omega arith)
 
 -- ---- six ids
 
@@ -85,5 +86,5 @@ span-length es l ids s h =
     length-take-le (s .count) (drop (s .first) six) (omega (arith, h, length-drop (s .first) six, six-length l ids (kindNo es (s .shape)) (numberNo es (s .shape))))
 
 -- so has what a rule names by a label
-pub label-length : (es : List Entry) (l : Layout) (ids : List ℕ) (kind third : ℕ) (name : Label) → length (spanIds es l ids (spanOf es kind third name)) ≡ spanOf es kind third name .count
-label-length es l ids kind third name = span-length es l ids (spanOf es kind third name) (span-inside es kind third name)
+pub label-length : (es : List Entry) (l : Layout) (ids : List ℕ) (n : Naming) (third : ℕ) (name : Label) → length (spanIds es l ids (spanOf es n third name)) ≡ spanOf es n third name .count
+label-length es l ids n third name = span-length es l ids (spanOf es n third name) (span-inside es third name n)

@@ -31,13 +31,12 @@ use Rattle.index.specs.Labels.{kindNo, nameNo, same, within}
 use Rattle.index.proofs.Laws.{says-same}
 use Rattle.drawing.specs.Needs.{Shape, point, circle, arc, declaring, needAt}
 use Rattle.drawing.specs.Faults.{Rule, Meets}
-use Rattle.lowering.specs.declared.spans.Span.{Span}
 use Rattle.lowering.specs.Slots.{flat, slots, size, before, howMany, kindFor, layoutOf, firstSlot}
-use Rattle.lowering.specs.Rows.{Naming, whole, part, center, namingOf, namedIds, rowFor, rulesOf, rowsOf, encodeRow, encodeRows}
+use Rattle.lowering.specs.Rows.{whole, part, center, namingOf, namedIds, rowFor, rulesOf, rowsOf, encodeRow, encodeRows}
 use Rattle.lowering.specs.Lower.{onto}
 use Rattle.lowering.specs.Offsets.{componentAt}
 use Rattle.lowering.specs.Demand.{Declares}
-use Rattle.lowering.specs.Steps.{shapeNo, sizeBy, centerBy, axisAt, endsIn, wholeSpan, centerSpan, partSpan, spanOf, sixOf, spanIds, labelIds, rowIds, rowAt, rowIf, rowsBelow, Sayable, Writable, Passing}
+use Rattle.lowering.specs.Steps.{shapeNo, sizeBy, centerBy, axisAt, endsIn, centerSpan, spanOf, sixOf, spanIds, labelIds, rowIds, rowAt, rowIf, rowsBelow, Sayable, Writable, Passing}
 use Rattle.lowering.proofs.Lists.{Each, each-of}
 use Rattle.lowering.proofs.Counts.{says-within, before-inside, length-slots, possible}
 use Rattle.lowering.proofs.Fine.{Fine, fine, declaration, NoDot, plain-no-dot, plain-name}
@@ -85,22 +84,6 @@ no-center a n = go (ltb (length a) 7) refl
         (λ q. n (length a - 7 + 0) (omega (arith, ltb-false (length a) 7 e)) (sym (getD-drop (length a - 7) a 0 0) ∙ ap (λ (z : Label). getD z 0 0) q))
 
 -- ---- the span of a label, by what it names
-
-abbrev choose : Naming → Span → Span → Span → Span
-choose part x y z = x
-choose center x y z = y
-choose whole x y z = z
-
-span-by : (es : List Entry) (kind third : ℕ) (l : Label) → spanOf es kind third l ≡ choose (namingOf kind) (partSpan es third l) (centerSpan es third l) (wholeSpan es l)
-unfolding spanOf
-span-by es kind third l = go (eqb kind 4) (eqb kind 18)
-  where
-    go : (a b : Bool)
-        → cond a (partSpan es third l) (cond b (centerSpan es third l) (wholeSpan es l))
-        ≡ choose (cond a part (cond b center whole)) (partSpan es third l) (centerSpan es third l) (wholeSpan es l)
-    go true b = refl
-    go false true = refl
-    go false false = refl
 
 naming-part : (k : ℕ) → namingOf k ≡ part → k ≡ 4
 naming-part k = go (eqb k 4) refl (eqb k 18)
@@ -200,7 +183,7 @@ module _ (es : List Entry) (w : Fine es) (few : length es ≤ most) (next : ℕ)
 
   -- its shape is found, and its ids are those of what it names
   record Said (e : Entry) (l : Label) : Type 0 where
-    found : spanOf es (e .kind) (e .third) l .shape < length es
+    found : spanOf es (namingOf (e .kind)) (e .third) l .shape < length es
     same-ids : labelIds es (layoutOf es) given e l ≡ namedIds es next e l
 
   module _ (e : Entry) (l : Label) (j : ℕ) (s : Shape) (d : Declares es j s) where
@@ -210,7 +193,7 @@ module _ (es : List Entry) (w : Fine es) (few : length es ≤ most) (next : ℕ)
         declared-found es w j s 1 3 d (omega arith) (omega arith) (b .0) (b .1)
 
     -- by the record that declares the shape, and where what is named stands in it
-    said-at : (k n : ℕ) (xs : List ℕ) → spanOf es (e .kind) (e .third) l ≡ record { shape = j; first = k; count = n }
+    said-at : (k n : ℕ) (xs : List ℕ) → spanOf es (namingOf (e .kind)) (e .third) l ≡ record { shape = j; first = k; count = n }
         → take n (drop k (onward (next + firstSlot s es j) (size s) ++ replicate (6 - size s) 0)) ≡ xs → namedIds es next e l ≡ xs → Said e l
     unfolding spanIds
     said-at k n xs span taken named = record {
@@ -219,7 +202,7 @@ module _ (es : List Entry) (w : Fine es) (few : length es ≤ most) (next : ℕ)
     }
 
     -- one component
-    said-one : (k : ℕ) → spanOf es (e .kind) (e .third) l ≡ record { shape = j; first = k; count = 1 } → k < size s
+    said-one : (k : ℕ) → spanOf es (namingOf (e .kind)) (e .third) l ≡ record { shape = j; first = k; count = 1 } → k < size s
         → namedIds es next e l ≡ (next + (firstSlot s es j + k)) ∷ [] → Said e l
     said-one k span h named =
         let at = firstSlot s es j in
@@ -228,9 +211,10 @@ module _ (es : List Entry) (w : Fine es) (few : length es ≤ most) (next : ℕ)
 
     -- every slot
     said-whole : namingOf (e .kind) ≡ whole → nameNo es j ≡ l → namedIds es next e l ≡ onward (next + firstSlot s es j) (size s) → Said e l
+    unfolding spanOf
     said-whole n name named =
         let at = next + firstSlot s es j in
-        said-at 0 (size s) (onward at (size s)) (span-by es (e .kind) (e .third) l ∙ rw (n, ← name, shape-found, d .kind-is, size-by s) refl)
+        said-at 0 (size s) (onward at (size s)) (rw (n, ← name, shape-found, d .kind-is, size-by s) refl)
         (take-at (onward at (size s)) (replicate (6 - size s) 0) (size s) (length-onward at (size s))) named
 
     -- a center's x or y
@@ -240,24 +224,27 @@ module _ (es : List Entry) (w : Fine es) (few : length es ≤ most) (next : ℕ)
 
     said-center : namingOf (e .kind) ≡ center → PairPart s (bytes ".center") → XY (e .third) → nameNo es j ≡ l
         → namedIds es next e l ≡ (next + (firstSlot s es j + componentAt s (bytes ".center") (e .third))) ∷ [] → Said e l
+    unfolding spanOf
     said-center n p o name =
-        said-one (componentAt s (bytes ".center") (e .third)) (span-by es (e .kind) (e .third) l ∙ rw (n, ← name) (center-is p o))
+        said-one (componentAt s (bytes ".center") (e .third)) (rw (n, ← name) (center-is p o))
         (center-at s (bytes ".center") p refl (e .third) o .inside)
 
     -- the same, by a dotted label
     said-dotted : namingOf (e .kind) ≡ part → PairPart s (bytes ".center") → XY (e .third) → nameNo es j ++ bytes ".center" ≡ l → Said e l
+    unfolding spanOf
     said-dotted n p o name =
         said-one (componentAt s (bytes ".center") (e .third))
-        (span-by es (e .kind) (e .third) l ∙ rw (n, ← name, ends-in-own (nameNo es j) (bytes ".center"), stem-of (nameNo es j) (bytes ".center")) (center-is p o))
+        (rw (n, ← name, ends-in-own (nameNo es j) (bytes ".center"), stem-of (nameNo es j) (bytes ".center")) (center-is p o))
         (center-at s (bytes ".center") p refl (e .third) o .inside) (part-ids es w next e l j s d (bytes ".center") n p o name)
 
   -- a point's x or y
   said-point : (e : Entry) (l : Label) (j : ℕ) → Declares es j point → namingOf (e .kind) ≡ part → XY (e .third) → nameNo es j ++ [] ≡ l → Said e l
+  unfolding spanOf
   said-point e l j d n o name =
       let a = point-at (e .third) o in
       let plain : nameNo es j ≡ l = sym (append-nil (nameNo es j)) ∙ name in
       said-one e l j point d (componentAt point [] (e .third))
-      (span-by es (e .kind) (e .third) l ∙ rw (n, ← plain, no-center (nameNo es j) (plain-no-dot (plain-name es w j point d)), shape-found e l j point d, a .0) refl)
+      (rw (n, ← plain, no-center (nameNo es j) (plain-no-dot (plain-name es w j point d)), shape-found e l j point d, a .0) refl)
       (a .1) (part-ids es w next e l j point d [] n the-point o name)
 
   -- what kind 4 names
@@ -293,7 +280,7 @@ module _ (es : List Entry) (w : Fine es) (few : length es ≤ most) (next : ℕ)
         (each-of (λ l. labelIds es (layoutOf es) given rule l ≡ namedIds es next rule l) (rule .labels) [] (λ q g. said q g .same-ids))
 
     sayable : Sayable es (layoutOf es) given i
-    sayable = record { inside = h; found = λ q g. said q g .found; fits = rw ids-same (ids-few es w next i h u) }
+    sayable = record { inside = h; count = label-count es w next i h u; found = λ q g. said q g .found; fits = rw ids-same (ids-few es w next i h u) }
 
     row-same : rowAt es (layoutOf es) given i ≡ encodeRow (rowFor es next (entryAt es i))
     unfolding rowAt

@@ -26,6 +26,7 @@ use Rattle.layout.specs.Push.{State, over, onward, after, stepped}
 use Rattle.layout.specs.Run.{act, done}
 use Rattle.layout.specs.Look.{pointIds, circleIds, arcSlotIds}
 use Rattle.store.specs.Store.{written}
+use Rattle.record.specs.Kinds.{assigned, a-round, kindAt}
 use Rattle.record.specs.Record.{le64}
 use Rattle.record.specs.Entry.{Label, Entry, entryAt, labelNo}
 use Rattle.record.specs.Formed.{most}
@@ -36,7 +37,7 @@ use Rattle.drawing.specs.Faults.{Rule}
 use Rattle.drawing.specs.Check.{countBelow, checkOf}
 use Rattle.lowering.specs.declared.spans.Span.{Span}
 use Rattle.lowering.specs.Slots.{slot, x-axis, y-axis, no-axis, startOf, slots, flat, layoutOf, valuesOf}
-use Rattle.lowering.specs.Rows.{rowMark, rowBytes, mostIds, le32, encodeRow, encodeRows, rowsOf}
+use Rattle.lowering.specs.Rows.{Naming, whole, part, center, namingOf, rowMark, rowBytes, mostIds, le32, encodeRow, encodeRows, rowsOf}
 use Rattle.lowering.specs.Lower.{Room, roomIn, onto}
 use Rattle.lowering.specs.Demand.{Enough}
 
@@ -60,7 +61,7 @@ shapeFor es point l = layout.point (pairFor es l [])
 shapeFor es circle l = layout.circle (circleFor es l)
 shapeFor es arc l = layout.arc (arcFor es l)
 
--- x for the kind m, y for the kind n, and z for any other
+-- x for the number m, y for the number n, and z for any other
 abbrev pub byKind : {A : Type 0} → ℕ → ℕ → ℕ → A → A → A → A
 byKind kind m n x y z = cond (eqb kind m) x (cond (eqb kind n) y z)
 
@@ -134,9 +135,16 @@ pointSpan es third l = record { shape = shapeNo es l; first = axisAt third; coun
 abbrev pub partSpan : List Entry → ℕ → Label → Span
 partSpan es third l = cond (endsIn l (bytes ".center")) (centerSpan es third (take (length l - 7) l)) (pointSpan es third l)
 
--- by the kind and the third byte of a rule
-unfoldable pub spanOf : List Entry → ℕ → ℕ → Label → Span
-spanOf es kind third l = byKind kind 4 18 (partSpan es third l) (centerSpan es third l) (wholeSpan es l)
+-- what a label names, by the code of its place in the table of kinds: where a label may be assigned, a part; where a circle or an arc
+-- is due, its center; else the whole shape
+abbrev pub namingBy : ℕ → Naming
+namingBy code = byKind code assigned a-round part center whole
+
+-- by what the label names, and the third byte of its rule
+unfoldable pub spanOf : List Entry → Naming → ℕ → Label → Span
+spanOf es part third l = partSpan es third l
+spanOf es center third l = centerSpan es third l
+spanOf es whole third l = wholeSpan es l
 
 -- ---- ids
 
@@ -173,7 +181,7 @@ spanIds es l ids s = take (s .count) (drop (s .first) (sixOf l ids (kindNo es (s
 
 -- the ids that a rule names by a label
 abbrev pub labelIds : List Entry → Layout → List ℕ → Entry → Label → List ℕ
-labelIds es l ids e label = spanIds es l ids (spanOf es (e .kind) (e .third) label)
+labelIds es l ids e label = spanIds es l ids (spanOf es (namingOf (e .kind)) (e .third) label)
 
 -- the ids that a rule names
 abbrev pub rowIds : List Entry → Layout → List ℕ → Entry → List ℕ
@@ -209,19 +217,20 @@ pub record Tables (es : List Entry) (heads nexts numbers : List ℕ) : Type 0 wh
   pub numbered : EachBelow (length es) (λ i. getD numbers i 0 ≡ numberNo es i)
 
 -- a label names a declared shape, and there is room for its ids behind the first m
-pub record Addable (es : List Entry) (l : Layout) (ids : List ℕ) (kind third : ℕ) (label : Label) (out : List ℕ) (m : ℕ) : Type 0 where
-  pub found : spanOf es kind third label .shape < length es
-  pub room : m + length (spanIds es l ids (spanOf es kind third label)) ≤ length out
+pub record Addable (es : List Entry) (l : Layout) (ids : List ℕ) (naming : Naming) (third : ℕ) (label : Label) (out : List ℕ) (m : ℕ) : Type 0 where
+  pub found : spanOf es naming third label .shape < length es
+  pub room : m + length (spanIds es l ids (spanOf es naming third label)) ≤ length out
 
 -- ids put behind the first m of a list, and how many there are then
 pub record Added (ids was : List ℕ) (m n : ℕ) (now : List ℕ) : Type 0 where
   pub count-is : n ≡ m + length ids
   pub list-is : now ≡ over was m ids
 
--- entry i names declared shapes, and no more than eight ids
+-- entry i has as many labels as its kind, each names a declared shape, and their ids are no more than eight
 pub record Sayable (es : List Entry) (l : Layout) (ids : List ℕ) (i : ℕ) : Type 0 where
   pub inside : i < length es
-  pub found : EachBelow (length (entryAt es i .labels)) (λ q. spanOf es (kindNo es i) (entryAt es i .third) (labelNo (entryAt es i) q) .shape < length es)
+  pub count : length (entryAt es i .labels) ≡ kindAt (kindNo es i) .labels
+  pub found : EachBelow (length (entryAt es i .labels)) (λ q. spanOf es (namingOf (kindNo es i)) (entryAt es i .third) (labelNo (entryAt es i) q) .shape < length es)
   pub fits : length (rowIds es l ids (entryAt es i)) ≤ mostIds
 
 -- how many ids there are, and a list that begins with them

@@ -2,13 +2,14 @@
 ghost use mathlib.Core.Path.{_≡_};
 ghost use Prim.Native.Nat.{_+_, _≤_, _<_};
 ghost use lib.ListN.{length, take, drop};
+ghost use Rattle.record.specs.Kinds.{table};
 ghost use Rattle.record.specs.Entry.{entryAt};
 ghost use Rattle.record.specs.Formed.{most};
 ghost use Rattle.index.specs.Labels.{drawn};
 ghost use Rattle.layout.specs.Push.{over};
 ghost use Rattle.lowering.specs.Rows.{mostIds};
 ghost use Rattle.lowering.specs.Lower.{onto};
-ghost use Rattle.lowering.specs.Steps.{pointSix, circleSix, arcSix, sixOf, Tables, spanOf, spanIds, Addable, Added, Sayable, Begins, rowIds, rowBytesOf, rowAt, Writing, Wrote, Writable, rowsBelow};
+ghost use Rattle.lowering.specs.Steps.{pointSix, circleSix, arcSix, sixOf, Tables, namingBy, spanOf, spanIds, Addable, Added, Sayable, Begins, rowIds, rowBytesOf, rowAt, Writing, Wrote, Writable, rowsBelow};
 use crate::ROW;
 use crate::spans::number;
 use crate::spans::span_of;
@@ -26,6 +27,10 @@ use layout::Layout;
 use layout::PointIds;
 use record::SIZE;
 use record::decode::decode_record;
+use record::kinds::KINDS;
+use record::kinds::LABELS;
+use record::kinds::NEEDS;
+use record::kinds::look;
 use store::put;
 
 // The first byte of a row's mark.
@@ -99,7 +104,8 @@ fn wide(x: u16) -> usize
     x as usize
 }
 
-// Puts the ids that a rule of a kind, with its third byte, names by a label behind the first m, and tells how many they are then.
+// Puts the ids of what a label names, by the code of its place and its rule's third byte, behind the first m, and tells how many they
+// are then.
 fn add_label(
     text: &[u8],
     records: &[u8],
@@ -108,16 +114,16 @@ fn add_label(
     numbers: &[u16],
     l: Layout,
     ids: &[u32],
-    kind: u8,
+    code: u8,
     third: u8,
     label: &[u8],
     out: &mut [u32],
     m: usize,
 ) -> usize
-    requires { ⌜ Tables (drawn (now text) (now records)) (now heads) (now nexts) (now numbers) × Addable (drawn (now text) (now records)) l (now ids) kind third (now label) (now out) m ⌝ }
-    ensures { λ r. ⌜ Added (spanIds (drawn (now (text .entry)) (now (records .entry))) l (now (ids .entry)) (spanOf (drawn (now (text .entry)) (now (records .entry))) kind third (now (label .entry)))) (now (out .entry)) m r (now (out .exit)) ⌝ }
+    requires { ⌜ Tables (drawn (now text) (now records)) (now heads) (now nexts) (now numbers) × Addable (drawn (now text) (now records)) l (now ids) (namingBy code) third (now label) (now out) m ⌝ }
+    ensures { λ r. ⌜ Added (spanIds (drawn (now (text .entry)) (now (records .entry))) l (now (ids .entry)) (spanOf (drawn (now (text .entry)) (now (records .entry))) (namingBy code) third (now (label .entry)))) (now (out .entry)) m r (now (out .exit)) ⌝ }
 {
-    let span = span_of(text, records, heads, nexts, kind, third, label);
+    let span = span_of(text, records, heads, nexts, code, third, label);
     let shape = span.shape;
     let number = wide(numbers[shape]);
     let six = six_of(l, ids, kind_at(records, shape), number);
@@ -127,6 +133,7 @@ fn add_label(
 
 // Puts the ids that a rule names into a row's eight, and tells how many they are.
 fn row_ids(
+    kinds: &[[u8; 8]; 26],
     text: &[u8],
     records: &[u8],
     heads: &[u16],
@@ -137,17 +144,18 @@ fn row_ids(
     i: usize,
     out: &mut [u32],
 ) -> usize
-    requires { ⌜ Tables (drawn (now text) (now records)) (now heads) (now nexts) (now numbers) × Sayable (drawn (now text) (now records)) l (now ids) i × (length (now out) ≡ mostIds) ⌝ }
+    requires { ⌜ (now kinds ≡ table) × Tables (drawn (now text) (now records)) (now heads) (now nexts) (now numbers) × Sayable (drawn (now text) (now records)) l (now ids) i × (length (now out) ≡ mostIds) ⌝ }
     ensures { λ r. ⌜ Begins (rowIds (drawn (now (text .entry)) (now (records .entry))) l (now (ids .entry)) (entryAt (drawn (now (text .entry)) (now (records .entry))) i)) (now (out .entry)) r (now (out .exit)) ⌝ }
 {
     let r = decode_record(records, i);
     let kind = r.kind;
     let third = r.third;
-    let n = r.count as usize;
+    let n = look(kinds, kind, LABELS) as usize;
     let mut m = 0;
     let mut q = 0;
     while q < n {
         let label = label_at(text, records, i, q);
+        let code = look(kinds, kind, NEEDS + q);
         m = add_label(
             text,
             records,
@@ -156,7 +164,7 @@ fn row_ids(
             numbers,
             l,
             ids,
-            kind,
+            code,
             third,
             label,
             out,
@@ -230,6 +238,7 @@ fn encode_row(kind: u8, third: u8, count: usize, ids: [u32; 8], bits: u64) -> [u
 
 // The row of rule i.
 fn row_at(
+    kinds: &[[u8; 8]; 26],
     text: &[u8],
     records: &[u8],
     heads: &[u16],
@@ -239,17 +248,29 @@ fn row_at(
     ids: &[u32],
     i: usize,
 ) -> [u8; 44]
-    requires { ⌜ Tables (drawn (now text) (now records)) (now heads) (now nexts) (now numbers) × Sayable (drawn (now text) (now records)) l (now ids) i ⌝ }
+    requires { ⌜ (now kinds ≡ table) × Tables (drawn (now text) (now records)) (now heads) (now nexts) (now numbers) × Sayable (drawn (now text) (now records)) l (now ids) i ⌝ }
     ensures { λ r. ⌜ r ≡ rowAt (drawn (now (text .entry)) (now (records .entry))) l (now (ids .entry)) i ⌝ }
 {
     let mut out = [0u32; 8];
-    let m = row_ids(text, records, heads, nexts, numbers, l, ids, i, &mut out);
+    let m = row_ids(
+        kinds,
+        text,
+        records,
+        heads,
+        nexts,
+        numbers,
+        l,
+        ids,
+        i,
+        &mut out,
+    );
     let r = decode_record(records, i);
     encode_row(r.kind, r.third, m, out, r.x)
 }
 
 // Writes the row of record i, if it is a rule, at a place, and tells the place after it.
 fn write_row(
+    kinds: &[[u8; 8]; 26],
     text: &[u8],
     records: &[u8],
     heads: &[u16],
@@ -261,20 +282,21 @@ fn write_row(
     rows: &mut [u8],
     at: usize,
 ) -> usize
-    requires { ⌜ Tables (drawn (now text) (now records)) (now heads) (now nexts) (now numbers) × Writing (drawn (now text) (now records)) l (now ids) i (now rows) at ⌝ }
+    requires { ⌜ (now kinds ≡ table) × Tables (drawn (now text) (now records)) (now heads) (now nexts) (now numbers) × Writing (drawn (now text) (now records)) l (now ids) i (now rows) at ⌝ }
     ensures { λ r. ⌜ Wrote (drawn (now (text .entry)) (now (records .entry))) l (now (ids .entry)) i (now (rows .entry)) at r (now (rows .exit)) ⌝ }
 {
     let kind = kind_at(records, i);
     if (kind < FIRST_RULE) | (LAST_RULE < kind) {
         return at;
     }
-    let row = row_at(text, records, heads, nexts, numbers, l, ids, i);
+    let row = row_at(kinds, text, records, heads, nexts, numbers, l, ids, i);
     put(rows, at, &row);
     at + ROW
 }
 
 // Writes the rows of all rules, in order.
 fn write_rows(
+    kinds: &[[u8; 8]; 26],
     text: &[u8],
     records: &[u8],
     heads: &[u16],
@@ -284,14 +306,26 @@ fn write_rows(
     ids: &[u32],
     rows: &mut [u8],
 )
-    requires { ⌜ Tables (drawn (now text) (now records)) (now heads) (now nexts) (now numbers) × Writable (drawn (now text) (now records)) l (now ids) (now rows) ⌝ }
+    requires { ⌜ (now kinds ≡ table) × Tables (drawn (now text) (now records)) (now heads) (now nexts) (now numbers) × Writable (drawn (now text) (now records)) l (now ids) (now rows) ⌝ }
     ensures { λ _. ⌜ now (rows .exit) ≡ onto (now (rows .entry)) (rowsBelow (drawn (now (text .entry)) (now (records .entry))) l (now (ids .entry)) (length (drawn (now (text .entry)) (now (records .entry))))) ⌝ }
 {
     let n = records.len() / SIZE;
     let mut at = 0;
     let mut i = 0;
     while i < n {
-        at = write_row(text, records, heads, nexts, numbers, l, ids, i, rows, at);
+        at = write_row(
+            kinds,
+            text,
+            records,
+            heads,
+            nexts,
+            numbers,
+            l,
+            ids,
+            i,
+            rows,
+            at,
+        );
         i += 1;
     }
 }
@@ -301,10 +335,21 @@ pub(crate) fn fill_rows(text: &[u8], records: &[u8], l: Layout, ids: &[u32], row
     requires { ⌜ (length (drawn (now text) (now records)) ≤ most) × Writable (drawn (now text) (now records)) l (now ids) (now rows) ⌝ }
     ensures { λ _. ⌜ now (rows .exit) ≡ onto (now (rows .entry)) (rowsBelow (drawn (now (text .entry)) (now (records .entry))) l (now (ids .entry)) (length (drawn (now (text .entry)) (now (records .entry))))) ⌝ }
 {
+    let kinds = KINDS;
     let mut numbers = [0u16; 1800];
     number(records, &mut numbers);
     let mut heads = [0u16; 1024];
     let mut nexts = [0u16; 1800];
     chain(text, records, NEW_POINT, NEW_ARC, &mut heads, &mut nexts);
-    write_rows(text, records, &heads, &nexts, &numbers, l, ids, rows);
+    write_rows(
+        &kinds,
+        text,
+        records,
+        &heads,
+        &nexts,
+        &numbers,
+        l,
+        ids,
+        rows,
+    );
 }

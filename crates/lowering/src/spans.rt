@@ -8,9 +8,7 @@ ghost use Rattle.record.specs.Decode.{countOf as records-in, decodeAt};
 ghost use Rattle.index.specs.Labels.{drawn};
 ghost use Rattle.index.specs.Chains.{Chained};
 ghost use Rattle.drawing.specs.Check.{countBelow};
-ghost use Rattle.lowering.specs.Steps.{sizeBy, centerBy, axisAt, endsIn, wholeSpan, centerSpan, partSpan, spanOf};
-use drawing::kinds::FIX_CENTER;
-use drawing::kinds::FIX_COMPONENT;
+ghost use Rattle.lowering.specs.Steps.{sizeBy, centerBy, axisAt, endsIn, wholeSpan, centerSpan, partSpan, namingBy, spanOf};
 use drawing::kinds::NEW_ARC;
 use drawing::kinds::NEW_CIRCLE;
 use drawing::kinds::NEW_POINT;
@@ -18,6 +16,8 @@ use index::find;
 use index::labels::kind_at;
 use index::labels::same;
 use record::SIZE;
+use record::kinds::ASSIGNED;
+use record::kinds::ROUND;
 
 // The third byte for y.
 const Y: u8 = 2;
@@ -124,22 +124,22 @@ fn part_span(
     }
 }
 
-// What a rule of a kind, with its third byte, names by a label.
+// What a label names, by the code of its place in the table of kinds and the third byte of its rule.
 pub(crate) fn span_of(
     text: &[u8],
     records: &[u8],
     heads: &[u16],
     nexts: &[u16],
-    kind: u8,
+    code: u8,
     third: u8,
     label: &[u8],
 ) -> Span
     requires { ⌜ Chained (drawn (now text) (now records)) 1 3 (now heads) (now nexts) ⌝ }
-    ensures { λ r. ⌜ r ≡ spanOf (drawn (now (text .entry)) (now (records .entry))) kind third (now (label .entry)) ⌝ }
+    ensures { λ r. ⌜ r ≡ spanOf (drawn (now (text .entry)) (now (records .entry))) (namingBy code) third (now (label .entry)) ⌝ }
 {
-    match kind {
-        FIX_COMPONENT => part_span(text, records, heads, nexts, third, label),
-        FIX_CENTER => center_span(text, records, heads, nexts, third, label),
+    match code {
+        ASSIGNED => part_span(text, records, heads, nexts, third, label),
+        ROUND => center_span(text, records, heads, nexts, third, label),
         _ => whole_span(text, records, heads, nexts, label),
     }
 }

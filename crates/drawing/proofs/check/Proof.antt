@@ -12,13 +12,14 @@ returns c = told-30 _ _ _ (sym (c .before .before .before .well-formed .ensures)
 
 check-by-requires : tie.Need-check-by-requires
 check-by-requires c κs =
-    let a = c .before .before .before .before .before .before .before .before .before .before .before .before .before .before .before .before .before .before .before .args in
+    let a = c .before .before .before .before .before .before .before .before .before .before .before .before .before .before .before .before .before .before .before .before .args in
     let w : WellFormed (a .text .now) (a .records .now) = well-formed-iff (a .text .now) (a .records .now) .0
-    (sym (c .before .before .before .before .before .before .before .before .before .before .before .before .before .before .before .before .well-formed .ensures) ∙ c .before .before .before .before .before .before .before .before .before .before .before .before .before .before .enum-told .given .1) in (
+    (sym (c .before .before .before .before .before .before .before .before .before .before .before .before .before .before .before .before .before .well-formed .ensures) ∙ c .before .before .before .before .before .before .before .before .before .before .before .before .before .before .before .enum-told .given .1) in (
       w,
       record {
-        declared = chained (a .text .now) (a .records .now) w (c .before .before .before .before .before .before .before .before .before .before .before .chain .ensures) refl refl;
-        guessed = chained (a .text .now) (a .records .now) w (c .before .before .before .before .before .before .chain2 .ensures) refl refl;
+        kinds-are = refl;
+        declared = chained (a .text .now) (a .records .now) w (c .before .before .before .before .before .before .before .before .before .before .before .before .chain .ensures) refl refl;
+        guessed = chained (a .text .now) (a .records .now) w (c .before .before .before .before .before .before .before .chain2 .ensures) refl refl;
       },
     )
 

@@ -15,11 +15,11 @@ use Rattle.drawing.proofs.check_by.Statement.{statement}
 use Rattle.drawing.proofs.check_by.Tie as tie
 
 abbrev Inv-loop : tie.InvT-loop
-Inv-loop text records heads nexts guess-heads guess-nexts n f₀ f =
+Inv-loop kinds text records heads nexts guess-heads guess-nexts n f₀ f =
     (f ≤ 5) × (checkOf (drawn text records) ≡ first (drop f behind30) (test (drawn text records)) (countOf records))
 
 abbrev μ-loop : tie.MeasureT-loop
-μ-loop text records heads nexts guess-heads guess-nexts n f₀ f = 5 - f
+μ-loop kinds text records heads nexts guess-heads guess-nexts n f₀ f = 5 - f
 
 loop-holds : tie.Need-loop-holds Inv-loop μ-loop
 loop-holds c =

@@ -15,10 +15,10 @@ use Rattle.drawing.proofs.faults.lowest_bad.Statement.{statement}
 use Rattle.drawing.proofs.faults.lowest_bad.Tie as tie
 
 abbrev Inv-loop : tie.InvT-loop
-Inv-loop text records heads nexts guess-heads guess-nexts f n i₀ i = (n ≡ countOf records) × (i ≤ n) × EachBelow i (λ j. test (drawn text records) (faultAt f) j ≡ false)
+Inv-loop kinds text records heads nexts guess-heads guess-nexts f n i₀ i = (n ≡ countOf records) × (i ≤ n) × EachBelow i (λ j. test (drawn text records) (faultAt f) j ≡ false)
 
 abbrev μ-loop : tie.MeasureT-loop
-μ-loop text records heads nexts guess-heads guess-nexts f n i₀ i = n - i
+μ-loop kinds text records heads nexts guess-heads guess-nexts f n i₀ i = n - i
 
 loop-holds : tie.Need-loop-holds Inv-loop μ-loop
 loop-holds c = (refl, omega arith, below-none _)

@@ -1,18 +1,20 @@
 -- `drawing::faults::no_such_part` meets its contract: only a guess is looked at, at its one label. Assumes nothing.
 use borrow.Author.Needs.{needs}
-use mathlib.Core.Path.{ap, _∙_}
-use Rattle.record.specs.declared.kinds.Kind.{Kind}
+use mathlib.Core.Path.{_∙_}
+use native.Mathlib.Omega.{arith}
+use Rattle.drawing.proofs.Laws.{code-read}
 use Rattle.drawing.proofs.Read.{wrong-place-is, no-such-part-yes, no-such-part-no}
 use Rattle.drawing.proofs.faults.no_such_part.Statement.{statement}
 use Rattle.drawing.proofs.faults.no_such_part.Tie as tie
 
 returns : tie.Need-returns
 returns c =
-    let a = c .before .before .before .before .before .before .before .before .before .before .args in
-    let k = c .before .before .before .before .before .kind-at in
+    let s = c .before .before .before .before .before .before .before .before .before in
+    let a = s .args in
+    let k = c .before .before .before .before .kind-at in
     wrong-place-is (a .text .now) (a .records .now) (a .i) (k .result) (k .ensures) 0 _ (c .before .before .label-at .ensures) _ _
-    (ap (λ (r : Kind). r .needs) (c .before .before .before .kind-of .ensures)) (c .meets .ensures)
-    ∙ no-such-part-yes (a .text .now) (a .records .now) (a .i) (k .result) (k .ensures) (c .before .before .before .before .if1 .taken)
+    (code-read (a .kinds .now) (s .pre .0) (k .result) 0 _ (omega arith) (c .before .look .ensures)) (c .meets .ensures)
+    ∙ no-such-part-yes (a .text .now) (a .records .now) (a .i) (k .result) (k .ensures) (c .before .before .before .if1 .taken)
 
 returns-2 : tie.Need-returns-2
 returns-2 c =
@@ -21,4 +23,4 @@ returns-2 c =
 
 pub no-such-part-spec : {M : Type 1} → statement M
 no-such-part-spec =
-    tie.close (tie.spec (λ c κs. search needs) (λ c κs. search needs) (λ c κs. search needs) (λ c. search needs) (λ c κs. search needs) returns returns-2)
+    tie.close (tie.spec (λ c κs. search needs) (λ c κs. search needs) (λ c κs. search needs) (λ c κs. search needs) returns returns-2)

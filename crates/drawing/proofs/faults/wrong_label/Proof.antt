@@ -1,31 +1,15 @@
 -- `drawing::faults::wrong_label` meets its contract: only a rule is looked at, at each of its kind's labels. Assumes nothing.
 use borrow.Author.Needs.{needs}
-use mathlib.Core.Path.{ap, _∙_}
-use Rattle.refusal.specs.First.{anyBelow}
-use Rattle.record.specs.declared.kinds.Kind.{Kind}
-use Rattle.index.specs.Labels.{drawn}
-use Rattle.drawing.specs.Check.{wrongPlace}
-use Rattle.drawing.proofs.Laws.{four-labels}
+use mathlib.Core.Path.{_∙_}
 use Rattle.drawing.proofs.Read.{wrong-label-yes, wrong-label-no}
 use Rattle.drawing.proofs.faults.wrong_label.Statement.{statement}
 use Rattle.drawing.proofs.faults.wrong_label.Tie as tie
 
-any-wrong-requires : tie.Need-any-wrong-requires
-any-wrong-requires c κs =
-    let s = c .before .before .before .before .before .before .before .before .before in
-    let k = c .before .before .kind-of in
-    let kind = c .before .before .before .before .kind-at in (
-      s .pre,
-      rw (k .ensures, ← kind .ensures),
-      rw (k .ensures) (four-labels (kind .result)),
-    )
-
 returns : tie.Need-returns
 returns c =
-    let a = c .before .before .before .before .before .before .before .before .before .before .args in
+    let a = c .before .before .before .before .before .before .before .args in
     c .any-wrong .ensures
-    ∙ ap (λ (k : Kind). anyBelow (k .labels) (wrongPlace (drawn (a .text .now) (a .records .now)) (a .i))) (c .before .before .before .kind-of .ensures)
-    ∙ wrong-label-yes (a .text .now) (a .records .now) (a .i) _ (c .before .before .before .before .before .kind-at .ensures) (c .before .before .before .before .if1 .taken)
+    ∙ wrong-label-yes (a .text .now) (a .records .now) (a .i) _ (c .before .before .kind-at .ensures) (c .before .if1 .taken)
 
 returns-2 : tie.Need-returns-2
 returns-2 c =
@@ -33,4 +17,4 @@ returns-2 c =
     wrong-label-no (a .text .now) (a .records .now) (a .i) _ (c .before .kind-at .ensures) (c .if1 .left)
 
 pub wrong-label-spec : {M : Type 1} → statement M
-wrong-label-spec = tie.close (tie.spec (λ c κs. search needs) (λ c κs. search needs) (λ c. search needs) any-wrong-requires returns returns-2)
+wrong-label-spec = tie.close (tie.spec (λ c κs. search needs) (λ c κs. search needs) returns returns-2)

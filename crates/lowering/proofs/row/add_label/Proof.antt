@@ -4,6 +4,7 @@ use mathlib.Core.Path.{sym, _∙_, ap}
 use lib.ListN.{length}
 use Rattle.index.specs.Labels.{drawn}
 use Rattle.index.proofs.Drawn.{drawn-kind}
+use Rattle.lowering.specs.Steps.{namingBy}
 use Rattle.lowering.proofs.Spanning.{six-length}
 use Rattle.lowering.proofs.Filling.{shape-in, span-fits, span-count, added}
 use borrow.Author.Needs.{needs}
@@ -33,8 +34,8 @@ append-requires c κs =
     let a = s .args in
     let es = drawn (a .text .now) (a .records .now) in
     let span = c .before .before .before .before .before .span-of in
-    let fits = span-fits es (a .l) (a .ids .now) (a .kind) (a .third) (a .label .now) _ (span .ensures) in
-    let count = span-count es (a .l) (a .ids .now) (a .kind) (a .third) (a .label .now) _ (span .ensures) in
+    let fits = span-fits es (a .l) (a .ids .now) (namingBy (a .code)) (a .third) (a .label .now) _ (span .ensures) in
+    let count = span-count es (a .l) (a .ids .now) (namingBy (a .code)) (a .third) (a .label .now) _ (span .ensures) in
     (omega (arith, s .pre .1 .room, count), fits, ap length (c .before .six-of .ensures) ∙ six-length _ _ _ _)
 
 add-result : tie.Need-add-result
@@ -43,7 +44,7 @@ add-result c =
     let a = s .args in
     let es = drawn (a .text .now) (a .records .now) in
     let span = c .before .before .before .before .before .before .before .before .before .span-of in
-    let count = span-count es (a .l) (a .ids .now) (a .kind) (a .third) (a .label .now) _ (span .ensures) in
+    let count = span-count es (a .l) (a .ids .now) (namingBy (a .code)) (a .third) (a .label .now) _ (span .ensures) in
     omega (arith, s .pre .1 .room, count, s .good .1 .1 .1 .1 .1 .1 .1 .1 .1 .1 .0 .1)
 
 returns : tie.Need-returns
@@ -52,7 +53,7 @@ returns c =
     let a = s .args in
     let es = drawn (a .text .now) (a .records .now) in
     let span = c .before .before .before .before .before .before .before .before .before .span-of in
-    added es (a .l) (a .ids .now) (a .kind) (a .third) (a .label .now) _ (span .ensures) _ _ _ (c .before .before .before .before .before .six-of .ensures)
+    added es (a .l) (a .ids .now) (namingBy (a .code)) (a .third) (a .label .now) _ (span .ensures) _ _ _ (c .before .before .before .before .before .six-of .ensures)
     (c .before .before .before .before .before .before .kind-at .ensures ∙ sym (drawn-kind (a .text .now) (a .records .now) (span .result .shape)))
     (c .before .before .before .before .before .before .before .wide .ensures ∙ s .pre .0 .numbered _ (rw (span .ensures) (s .pre .1 .found)))
     _ _ _ (c .before .before .before .append .ensures)

@@ -15,9 +15,9 @@ number-requires c κs =
 
 write-rows-requires : tie.Need-write-rows-requires
 write-rows-requires c κs =
-    let s = c .before .before .before .before .before .before .before .before .before .before .before .before .before .before .before .before in
-    let number = c .before .before .before .before .before .before .before .before .before .before .number in
-    (tables-are (s .args .text .now) (s .args .records .now) _ _ _ (chained (s .pre .0) (c .before .before .before .before .before .before .chain .ensures) refl refl) (omega (arith, s .pre .0, number .kept .1 .0)) (number .ensures), s .pre .1)
+    let s = c .before .before .before .before .before .before .before .before .before .before .before .before .before .before .before .before .before in
+    let number = c .before .before .before .before .before .before .before .before .before .before .before .number in
+    (refl, tables-are (s .args .text .now) (s .args .records .now) _ _ _ (chained (s .pre .0) (c .before .before .before .before .before .before .before .chain .ensures) refl refl) (omega (arith, s .pre .0, number .kept .1 .0)) (number .ensures), s .pre .1)
 
 pub fill-rows-spec : {M : Type 1} → statement M
 fill-rows-spec =

@@ -9,10 +9,10 @@ use Rattle.lowering.proofs.row.write_rows.Statement.{statement}
 use Rattle.lowering.proofs.row.write_rows.Tie as tie
 
 abbrev Inv-loop : tie.InvT-loop
-Inv-loop text records heads nexts numbers l ids rows₀ n at₀ i₀ rows at i = Writes (drawn text records) l ids rows₀ rows at i
+Inv-loop kinds text records heads nexts numbers l ids rows₀ n at₀ i₀ rows at i = Writes (drawn text records) l ids rows₀ rows at i
 
 abbrev μ-loop : tie.MeasureT-loop
-μ-loop text records heads nexts numbers l ids rows₀ n at₀ i₀ rows at i = n - i
+μ-loop kinds text records heads nexts numbers l ids rows₀ n at₀ i₀ rows at i = n - i
 
 loop-holds : tie.Need-loop-holds Inv-loop μ-loop
 loop-holds c = writes-start _ _ _ _
@@ -22,7 +22,7 @@ write-row-requires c κs =
     let s = c .before .before .before .before .before .before .before .before .before .before in
     let a = s .args in
     let es = drawn (a .text .now) (a .records .now) in
-    (s .pre .0, writing es (a .l) (a .ids .now) (a .rows .now) (s .pre .1) (c .before .before .loop .inv) (rw (drawn-length (a .text .now) (a .records .now)) (omega arith)))
+    (s .pre .0, s .pre .1, writing es (a .l) (a .ids .now) (a .rows .now) (s .pre .2) (c .before .before .loop .inv) (rw (drawn-length (a .text .now) (a .records .now)) (omega arith)))
 
 loop-again : tie.Need-loop-again Inv-loop μ-loop
 loop-again c =
@@ -30,7 +30,7 @@ loop-again c =
     let a = s .args in
     let es = drawn (a .text .now) (a .records .now) in
     let w = c .before .before .write-row in
-    writes-turn es (a .l) (a .ids .now) (a .rows .now) (s .pre .1) (c .before .before .before .before .before .loop .inv) (rw (drawn-length (a .text .now) (a .records .now)) (omega arith)) _ _ (w .kept .1 .1 .1 .1 .1 .1 .1 .1 .0) (w .ensures)
+    writes-turn es (a .l) (a .ids .now) (a .rows .now) (s .pre .2) (c .before .before .before .before .before .loop .inv) (rw (drawn-length (a .text .now) (a .records .now)) (omega arith)) _ _ (w .kept .1 .1 .1 .1 .1 .1 .1 .1 .1 .0) (w .ensures)
 
 returns : tie.Need-returns Inv-loop μ-loop
 returns c =

@@ -1,7 +1,8 @@
--- `lowering::spans::span_of` meets its contract, by the kind of the rule. Assumes nothing.
+-- `lowering::spans::span_of` meets its contract, by the code of the label's place. Assumes nothing.
+use Rattle.record.specs.Kinds.{assigned, a-round}
+use Rattle.lowering.specs.Rows.{whole, part, center}
 use Rattle.lowering.specs.Steps.{spanOf}
 use native.Mathlib.Omega.{arith}
-use mathlib.Core.Path.{sym, _∙_}
 use Rattle.lowering.proofs.Stepping.{is-first, is-second, is-other}
 use borrow.Author.Needs.{needs}
 use Rattle.lowering.proofs.spans.span_of.Statement.{statement}
@@ -11,19 +12,19 @@ returns : tie.Need-returns
 unfolding spanOf
 returns c =
     let a = c .before .before .before .before .before .before .before .args in
-    c .part-span .ensures ∙ sym (is-first (a .kind) 4 18 _ _ _ (omega arith))
+    rw (is-first (a .code) assigned a-round part center whole (omega arith)) (c .part-span .ensures)
 
 returns-2 : tie.Need-returns-2
 unfolding spanOf
 returns-2 c =
     let a = c .before .before .before .before .before .before .before .args in
-    c .center-span .ensures ∙ sym (is-second (a .kind) 4 18 _ _ _ (λ e. omega arith) (omega arith))
+    rw (is-second (a .code) assigned a-round part center whole (λ e. omega arith) (omega arith)) (c .center-span .ensures)
 
 returns-3 : tie.Need-returns-3
 unfolding spanOf
 returns-3 c =
     let a = c .before .before .before .before .before .before .before .args in
-    c .whole-span .ensures ∙ sym (is-other (a .kind) 4 18 _ _ _ (c .before .match .rest .0 .1) (c .before .match .rest .1))
+    rw (is-other (a .code) assigned a-round part center whole (c .before .match .rest .0 .1) (c .before .match .rest .1)) (c .whole-span .ensures)
 
 pub span-of-spec : {M : Type 1} → statement M
 span-of-spec = tie.close (tie.spec (λ c κs. search needs) (λ c κs. search needs) (λ c κs. search needs) returns returns-2 returns-3)
