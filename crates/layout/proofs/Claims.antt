@@ -1,5 +1,5 @@
 -- What is claimed of the layout, each from the laws of its subject. Assumes nothing.
-use Rattle.layout.specs.Claims.{ArcsAgree, GoodPush, RefusedPush, AnyRun, AcceptedRun, AllAccepted, AllReadBack, OneSlotOnePart}
+use Rattle.layout.specs.Claims.{ArcsAgree, GoodPush, RefusedPush, AnyRun, AllAccepted, AllReadBack, OneSlotOnePart}
 use mathlib.Core.Path.{sym, _∙_, ap}
 use Rattle.layout.specs.Push.{State}
 use Rattle.layout.proofs.Laws.{good-state, refused-state}
@@ -21,9 +21,6 @@ refused-push shape s r ids values p =
 
 pub any-run : AnyRun
 any-run next ids values acts = laid next ids values acts
-
-pub accepted-run : AcceptedRun
-accepted-run next ids values acts all = rw all at (laid next ids values acts)
 
 pub all-accepted : AllAccepted
 all-accepted next ids values ps cs xs room = all-in next ids values ps cs xs room

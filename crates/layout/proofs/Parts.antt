@@ -33,10 +33,10 @@ use Rattle.layout.proofs.Accepted.{all-in}
 -- ---- a part and its slot
 
 -- component j of the shape from a slot on stands j slots further
-abbrev At : Kind → List Float → ℕ → ℕ → Type 0
+abbrev pub At : Kind → List Float → ℕ → ℕ → Type 0
 At k values at j = getD (components (shapeAt k values at)) j nan ≡ getD values (at + j) nan
 
-part-at : (k : Kind) (values : List Float) (at j : ℕ) → j < sizeOf k → At k values at j
+pub part-at : (k : Kind) (values : List Float) (at j : ℕ) → j < sizeOf k → At k values at j
 part-at k values at =
     let here : getD values at nan ≡ getD values (at + 0) nan = let e : at ≡ at + 0 = omega arith in ap (λ (n : ℕ). getD values n nan) e in
     by-kind k here

@@ -16,7 +16,7 @@ use Rattle.layout.specs.Slots.{Shape, slotsOf, empty}
 use Rattle.layout.specs.Refusals.{impossible}
 use Rattle.layout.specs.Push.{State, state, Push, after}
 use Rattle.layout.specs.Look.{arcIds, arcSlotIds}
-use Rattle.layout.specs.Run.{Act, run, taken, asked, Accepted, Distinct, Laid, runOf, Room, AllIn}
+use Rattle.layout.specs.Run.{Act, run, taken, Distinct, Laid, runOf, Room, AllIn}
 use Rattle.layout.specs.Parts.{Part, Has, ReadOut, ReadBack}
 
 -- with ids all distinct, the two lookups agree on every arc exactly if there are no circles or no arcs
@@ -39,12 +39,6 @@ abbrev pub AnyRun : Type 0
 AnyRun =
     (next : ℕ) (ids : List ℕ) (values : List Float) (acts : List Act)
     → Laid (state empty next ids values) (taken acts (state empty next ids values)) (run acts (state empty next ids values))
-
--- after any accepted run, the shapes that were pushed are laid out
-abbrev pub AcceptedRun : Type 0
-AcceptedRun =
-    (next : ℕ) (ids : List ℕ) (values : List Float) (acts : List Act) → Accepted acts (state empty next ids values)
-    → Laid (state empty next ids values) (asked acts) (run acts (state empty next ids values))
 
 -- P points, C circles and A arcs with room and ids enough are all accepted
 abbrev pub AllAccepted : Type 0

@@ -43,16 +43,6 @@ unfoldable pub taken : List Act → State → List Shape
 taken [] s = []
 taken (a ∷ acts) s = takes a s ++ taken acts (act a s)
 
--- the shapes that a run pushes
-abbrev pub asked : List Act → List Shape
-asked [] = []
-asked (push shape ∷ acts) = shape ∷ asked acts
-asked (done ∷ acts) = asked acts
-
--- every push of a run is accepted
-abbrev pub Accepted : List Act → State → Type 0
-Accepted acts s = taken acts s ≡ asked acts
-
 -- ---- what a run leaves
 
 -- the components of all shapes, in order
