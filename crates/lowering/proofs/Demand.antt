@@ -3,7 +3,7 @@
 use mathlib.Core.Path.{_≡_, refl, sym, ap, _∙_}
 use mathlib.Core.Bool.{Bool, true, false, cond, _&&_}
 use mathlib.Core.List.{List, [], _∷_, _++_}
-use Prim.Native.Nat.{ℕ, _+_, _*_, _%_, _≤_, _<_}
+use Prim.Native.Nat.{ℕ, _+_, _*_, _%_, _≤_}
 use native.Mathlib.Omega.{arith}
 use lib.Dec.{leb, eqb}
 use lib.ListN.{length, getD, drop, length-append, List·getD-append}
@@ -16,25 +16,25 @@ use Rattle.layout.specs.Slots as layout
 use Rattle.layout.specs.Refusals.{idsEnd}
 use Rattle.layout.specs.Push.{onward}
 use Rattle.layout.proofs.Onward.{length-onward, getD-onward}
-use Rattle.layout.proofs.Claims.{one-slot-one-part}
 use Rattle.record.specs.Record.{recordBytes}
 use Rattle.record.specs.Decode.{countOf, recordOf}
 use Rattle.record.specs.Entry.{Entry, noEntry, upTo}
 use Rattle.record.specs.Sound.{longest}
 use Rattle.record.specs.Formed.{most, entry, entries}
 use Rattle.record.proofs.UpTo.{length-up-to}
-use Rattle.drawing.specs.Needs.{Shape, point, circle, arc}
+use Rattle.drawing.specs.Needs.{point, circle, arc}
 use Rattle.lowering.specs.declared.Lowered.{Lowered}
 use Rattle.lowering.specs.declared.Lowered.the-variants as L
-use Rattle.lowering.specs.Slots.{slots, before, howMany, kindFor, layoutOf, valuesOf}
+use Rattle.lowering.specs.Slots.{slots, howMany, valuesOf}
 use Rattle.lowering.specs.Rows.{rulesOf, rowsOf, encodeRows}
 use Rattle.lowering.specs.Lower.{lowerOf, unless, onto, roomIn, Lowers}
-use Rattle.lowering.specs.Demand.{Declares, rulesBefore, CannotGoWrong, PassedLowersWell}
+use Rattle.lowering.specs.Demand.{rulesBefore, CannotGoWrong, PassedLowersWell}
 use Rattle.lowering.proofs.Lacking.{lower-good}
-use Rattle.lowering.proofs.Counts.{rules-all, before-inside, length-slots, slot-count, possible}
+use Rattle.lowering.proofs.Counts.{rules-all, slot-count}
 use Rattle.lowering.proofs.Fine.{Fine, fine, passed-with}
 use Rattle.lowering.proofs.Places.{one-component, slot-of}
 use Rattle.lowering.proofs.Values.{starts, length-values, value-at}
+use Rattle.lowering.proofs.Fields.{read-out}
 use Rattle.lowering.proofs.Bytes.{rule-inside, row-of}
 
 -- ---- the list of a drawing is short enough for a layout
@@ -87,14 +87,8 @@ module _ (es : List Entry) (w : Fine es) (few : length es ≤ layout.mostShapes)
     starts = λ j h. rw (written-value j h, value-at es j h) (starts es w j h);
     row-count = refl;
     one-row = λ i h u. (omega (arith, rule-inside es i h u, rules-all es), row-of es w next i h u left (drop (length (encodeRows (rowsOf es next))) rows));
-    read-out = λ i s k d h vs long v.
-        one-slot-one-part (layoutOf es) vs (possible es few) (omega (arith, long, length-slots es)) (record { kind = kindFor s; shape = before s es i; place = k }) v (counted i s d, h);
+    read-out = read-out es w few;
   }
-    where
-      counted : (i : ℕ) (s : Shape) → Declares es i s → before s es i < layout.countOf (kindFor s) (layoutOf es)
-      counted i point d = before-inside es i point d
-      counted i circle d = before-inside es i circle d
-      counted i arc d = before-inside es i arc d
 
 -- ---- the demand
 

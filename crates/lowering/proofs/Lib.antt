@@ -5,6 +5,7 @@ pub mod Around
 pub mod Places
 pub mod Found
 pub mod Values
+pub mod Fields
 pub mod Ids
 pub mod Named
 pub mod Rows

@@ -2,12 +2,16 @@
 use mathlib.Core.Path.{_≡_}
 use mathlib.Core.List.{List, [], _++_, List·Memᴰ}
 use Prim.Native.Nat.{ℕ, _+_, _*_, _^_, _≤_, _<_}
-use lib.ListN.{length, getD, take, drop}
+use lib.ListN.{length, getD, set, take, drop}
 use lib.Ieee.{Float, nan, binary64, ofBits}
 use Rattle.refusal.specs.First.{SomeBelow, EachBelow}
 use Rattle.layout.specs.declared.Stage.the-variants.{Done}
+use Rattle.layout.specs.declared.PointRead.the-variants as PR
+use Rattle.layout.specs.declared.CircleRead.the-variants as CR
+use Rattle.layout.specs.declared.ArcRead.the-variants as AR
+use Rattle.layout.specs.Slots as layout
 use Rattle.layout.specs.Refusals.{idsEnd}
-use Rattle.layout.specs.Parts as layout
+use Rattle.layout.specs.Look.{pointRead, circleRead, arcRead}
 use Rattle.layout.specs.Run.{Distinct}
 use Rattle.record.specs.Decode.{u16}
 use Rattle.record.specs.Entry.{Label, Entry, entryAt, labelNo}
@@ -20,6 +24,7 @@ use Rattle.drawing.specs.Check.{countBelow, checkedOf}
 use Rattle.lowering.specs.declared.Lowered.{Lowered}
 use Rattle.lowering.specs.declared.Lowered.the-variants as L
 use Rattle.lowering.specs.Slots.{Slot, slot, slots, slotsOfShape, flat, size, before, howMany, kindFor, layoutOf, firstSlot, numberFor}
+use Rattle.lowering.specs.Fields.{fieldOf}
 use Rattle.lowering.specs.Rows.{namingOf, Names, namedIds, Row, rulesOf, rowBytes, mostIds, encodeRow}
 use Rattle.lowering.specs.Lower.{Room, roomIn, Lowers}
 
@@ -117,9 +122,24 @@ rulesBefore es n = countBelow (kindNo es) 4 23 n
 
 -- ---- readout
 
--- component k of the shape s that record i declares, as the layout knows it: by its kind and number
-abbrev pub partFor : List Entry → ℕ → Shape → ℕ → layout.Part
-partFor es i s k = record { kind = kindFor s; shape = before s es i; place = k }
+-- the readout of the values vs hands back this for the shape that record i declares, by its number among those of its kind
+abbrev pub HandsBack : List Entry → List Float → ℕ → layout.Shape → Type 0
+HandsBack es vs i (layout.point p) = pointRead (layoutOf es) vs (before point es i) ≡ PR.Found p
+HandsBack es vs i (layout.circle c) = circleRead (layoutOf es) vs (before circle es i) ≡ CR.Found c
+HandsBack es vs i (layout.arc a) = arcRead (layoutOf es) vs (before arc es i) ≡ AR.Found a
+
+-- v is read out as the component t of the shape s that record i declares: it stands in the field that t is named for
+pub record ReadAs (es : List Entry) (vs : List Float) (i : ℕ) (s : Shape) (t : Slot) (v : Float) : Type 0 where
+  pub shape : layout.Shape
+  pub of-kind : layout.kindOf shape ≡ kindFor s
+  pub handed-back : HandsBack es vs i shape
+  pub field-is : fieldOf shape t ≡ v
+
+-- v is put in slot j of the values vs: it is read out as that slot's component, and each other component as it was before
+pub record ReadOut (es : List Entry) (vs : List Float) (j : ℕ) (v : Float) : Type 0 where
+  pub own : (i : ℕ) (s : Shape) (k : ℕ) → ComponentOf es i s k (slotAt es j) → ReadAs es (set vs j v) i s (slotAt es j) v
+  pub others : (i : ℕ) (s : Shape) (k : ℕ) (t : Slot) → ComponentOf es i s k t → (t ≡ slotAt es j → ⊥)
+      → (was : Float) × ReadAs es vs i s t was × ReadAs es (set vs j v) i s t was
 
 -- ---- the demand
 
@@ -144,8 +164,7 @@ pub record CannotGoWrong (es : List Entry) (P C A R next : ℕ) (ids : List ℕ)
   pub row-count : R ≡ rulesBefore es (length es)
   pub one-row : (i : ℕ) → i < length es → Rule (kindNo es i) → (rulesBefore es i < R) × RowOf es next (entryAt es i) (rowNo rows (rulesBefore es i))
   -- and a value put in a slot is read out as that component and no other
-  pub read-out : (i : ℕ) (s : Shape) (k : ℕ) → Declares es i s → k < size s → (vs : List Float) → length (slots es) ≤ length vs → (v : Float)
-      → layout.ReadOut (layoutOf es) vs (partFor es i s k) v
+  pub read-out : (vs : List Float) → length (slots es) ≤ length vs → (v : Float) → EachBelow (length (slots es)) (λ j. ReadOut es vs j v)
 
 -- a call of lowering with the next id that was answered r, with the ids, the values and the rows after it
 pub record LowersWell (es : List Entry) (P C A R next : ℕ) (r : Lowered) (ids′ : List ℕ) (values′ : List Float) (rows′ : List ℕ) : Type 0 where

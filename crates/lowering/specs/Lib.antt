@@ -1,4 +1,5 @@
 pub mod Slots
+pub mod Fields
 pub mod Rows
 pub mod Lower
 pub mod Offsets

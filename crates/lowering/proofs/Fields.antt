@@ -1,0 +1,87 @@
+-- A value put in a slot is read out as the component that the slot is named for, and no other: the layout keeps each shape's fields in the order of
+-- its components' names, and each component has a slot of its own. Assumes nothing.
+use mathlib.Core.Path.{_≡_, refl, sym, ap, _∙_, subst}
+use mathlib.Core.List.{List, map}
+use Prim.Native.Nat.{ℕ, _+_, _≤_, _<_}
+use native.Mathlib.Omega.{arith}
+use lib.ListN.{length, getD, set, length-set}
+use lib.Seq.{getD-set-same, getD-set-other}
+use lib.Ieee.{Float, nan}
+use Rattle.refusal.specs.First.{EachBelow}
+use Rattle.layout.specs.Slots as layout
+use Rattle.layout.specs.Parts.{shapeAt}
+use Rattle.layout.proofs.Parts.{part-at, reads}
+use Rattle.record.specs.Entry.{Label, Entry}
+use Rattle.index.specs.Labels.{nameNo}
+use Rattle.drawing.specs.Needs.{Shape, point, circle, arc}
+use Rattle.lowering.specs.Slots.{Slot, slotsOfShape, slots, size, before, kindFor, layoutOf, firstSlot}
+use Rattle.lowering.specs.Fields.{fieldOf}
+use Rattle.lowering.specs.Demand.{noSlot, slotAt, Declares, ComponentOf, HandsBack, ReadAs, ReadOut}
+use Rattle.lowering.proofs.Lists.{getD-map}
+use Rattle.lowering.proofs.Counts.{before-inside, length-shape, length-slots, possible}
+use Rattle.lowering.proofs.Fine.{Fine}
+use Rattle.lowering.proofs.Places.{slot-of, place-is}
+
+-- ---- the fields of a shape, in the order of its components' names
+
+module _ (vs : List Float) (at : ℕ) where
+  abbrev shape : Shape → layout.Shape
+  shape s = shapeAt (kindFor s) vs at
+
+  fields : (s : Shape) (l : Label) → map (fieldOf (shape s)) (slotsOfShape s l) ≡ layout.components (shape s)
+  fields point l = refl
+  fields circle l = refl
+  fields arc l = refl
+
+  of-kind : (s : Shape) → layout.kindOf (shape s) ≡ kindFor s
+  of-kind point = refl
+  of-kind circle = refl
+  of-kind arc = refl
+
+  -- component k stands in the field that it is named for
+  field-is : (s : Shape) (l : Label) (k : ℕ) → k < size s → fieldOf (shape s) (getD (slotsOfShape s l) k noSlot) ≡ getD vs (at + k) nan
+  field-is s l k h =
+      sym (getD-map (fieldOf (shape s)) (slotsOfShape s l) k noSlot nan (rw (length-shape s l) h))
+      ∙ ap (λ (z : List Float). getD z k nan) (fields s l)
+      ∙ part-at (kindFor s) vs at k h
+
+-- ---- what is read out of the values of a drawing
+
+module _ (es : List Entry) (w : Fine es) (few : length es ≤ layout.mostShapes) where
+  module _ (vs : List Float) (long : length (slots es) ≤ length vs) where
+    handed-back : (i : ℕ) (s : Shape) → Declares es i s → HandsBack es vs i (shapeAt (kindFor s) vs (firstSlot s es i))
+    handed-back i s d = go s (before-inside es i s d)
+      where
+        enough : layout.slotsOf (layoutOf es) ≤ length vs
+        enough = omega (arith, long, length-slots es)
+
+        go : (s : Shape) → before s es i < before s es (length es) → HandsBack es vs i (shapeAt (kindFor s) vs (firstSlot s es i))
+        go point h = reads (layoutOf es) vs (possible es few) enough (kindFor point) (before point es i) h
+        go circle h = reads (layoutOf es) vs (possible es few) enough (kindFor circle) (before circle es i) h
+        go arc h = reads (layoutOf es) vs (possible es few) enough (kindFor arc) (before arc es i) h
+
+    -- each component is read out as what stands in its slot
+    read-as : (i : ℕ) (s : Shape) (k : ℕ) (t : Slot) → ComponentOf es i s k t → ReadAs es vs i s t (getD vs (firstSlot s es i + k) nan)
+    read-as i s k t c =
+        let at = firstSlot s es i in
+        record {
+          shape = shapeAt (kindFor s) vs at;
+          of-kind = of-kind vs at s;
+          handed-back = handed-back i s (c .declared);
+          field-is = ap (fieldOf (shapeAt (kindFor s) vs at)) (c .is) ∙ field-is vs at s (nameNo es i) k (c .one-of-it);
+        }
+
+  pub read-out : (vs : List Float) → length (slots es) ≤ length vs → (v : Float) → EachBelow (length (slots es)) (λ j. ReadOut es vs j v)
+  read-out vs long v j h =
+      let now = set vs j v in
+      let long-now : length (slots es) ≤ length now = rw length-set long in
+      record {
+        own = λ i s k c.
+            let e : getD now (firstSlot s es i + k) nan ≡ v = rw (← (place-is es w i s k j h c)) (getD-set-same vs j v nan (omega (arith, h, long))) in
+            subst (ReadAs es now i s (slotAt es j)) e (read-as now long-now i s k (slotAt es j) c);
+        others = λ i s k t c other.
+            let m = firstSlot s es i + k in
+            let there : t ≡ slotAt es m = c .is ∙ sym (slot-of es w i s k (c .declared) (c .one-of-it) .1 .is) in
+            let e : getD now m nan ≡ getD vs m nan = getD-set-other vs j m v nan (λ q. other (there ∙ ap (slotAt es) q)) in
+            (getD vs m nan, read-as vs long i s k t c, subst (ReadAs es now i s t) e (read-as now long-now i s k t c));
+      }
