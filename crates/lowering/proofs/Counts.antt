@@ -1,7 +1,7 @@
 -- The counts of a drawing are the lengths of the lists that its records are picked into: each record adds to both alike. Assumes nothing.
 use mathlib.Core.Path.{_≡_, refl, sym, ap, _∙_}
 use mathlib.Core.Bool.{Bool, true, false, cond}
-use mathlib.Core.List.{List, [], _∷_, _++_, append-nil}
+use mathlib.Core.List.{List, [], _∷_, _++_}
 use Prim.Native.Nat.{ℕ, zero, suc, _+_, _*_, _≤_, _<_}
 use native.Mathlib.Nat.{le-refl}
 use native.Mathlib.Omega.{arith}
@@ -13,13 +13,13 @@ use Rattle.layout.specs.Slots as layout
 use Rattle.layout.proofs.Laws.{can-be}
 use Rattle.layout.specs.Refusals.{impossible}
 use Rattle.record.specs.Entry.{Label, Entry, noEntry, entryAt, labelNo}
-use Rattle.index.specs.Labels.{kindNo, nameNo, within}
+use Rattle.index.specs.Labels.{kindNo, within}
 use Rattle.drawing.specs.Needs.{Shape, point, circle, arc, declaring}
 use Rattle.drawing.specs.Check.{countBelow}
-use Rattle.lowering.specs.Slots.{Slot, flat, slotsOfShape, labelsOf, slotsOf, slots, size, before, howMany, layoutOf}
+use Rattle.lowering.specs.Slots.{slotsOfShape, labelsOf, slotsOf, slots, size, before, howMany, layoutOf}
 use Rattle.lowering.specs.Rows.{rulesOf}
 use Rattle.lowering.specs.Demand.{Declares, rulesBefore}
-use Rattle.lowering.proofs.Lists.{each-of, length-flat, flat-append, Picks, picks-suc, picks-around}
+use Rattle.lowering.proofs.Lists.{each-of, length-flat, Picks, picks-suc, picks-around}
 
 -- ---- what is picked
 
@@ -107,18 +107,6 @@ length-shape arc l = refl
 
 pub length-of : (s : Shape) (es : List Entry) → length (slotsOf s es) ≡ length (labelsOf s es) * size s
 length-of s es = length-flat (slotsOfShape s) (size s) (labelsOf s es) (each-of (λ l. length (slotsOfShape s l) ≡ size s) (labelsOf s es) [] (λ j h. length-shape s _))
-
--- the slots of a kind, one record more
-pub slots-more : (s : Shape) (es : List Entry) (i : ℕ) → i < length es
-    → slotsOf s (take (suc i) es) ≡ slotsOf s (take i es) ++ cond (within (declaring s) (declaring s) (kindNo es i)) (slotsOfShape s (nameNo es i)) []
-slots-more s es i h =
-    ap (flat (slotsOfShape s)) (picks-suc _ _ _ (labels-pick s) es i noEntry h)
-    ∙ flat-append (slotsOfShape s) (labelsOf s (take i es)) (cond (within (declaring s) (declaring s) (kindNo es i)) (nameNo es i ∷ []) [])
-    ∙ ap (λ (l : List Slot). slotsOf s (take i es) ++ l) (go (within (declaring s) (declaring s) (kindNo es i)))
-  where
-    go : (b : Bool) → flat (slotsOfShape s) (cond b (nameNo es i ∷ []) []) ≡ cond b (slotsOfShape s (nameNo es i)) []
-    go true = append-nil (slotsOfShape s (nameNo es i))
-    go false = refl
 
 module _ (es : List Entry) where
   pub length-slots : length (slots es) ≡ layout.slotsOf (layoutOf es)

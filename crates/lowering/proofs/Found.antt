@@ -9,7 +9,7 @@ use Rattle.refusal.proofs.Says.{Says, says-so, says-and, refuted}
 use Rattle.record.specs.Entry.{Label, Entry, entryAt}
 use Rattle.index.specs.Labels.{kindNo, nameNo, labelled, lowestOr}
 use Rattle.index.proofs.Laws.{says-same}
-use Rattle.index.proofs.First.{lowest-here, lowest-nowhere}
+use Rattle.index.proofs.First.{lowest-here}
 use Rattle.drawing.specs.Needs.{Shape, point, circle, arc, declaring, pairGuess, numberGuess, Part, parts}
 use Rattle.drawing.specs.Faults.{Declaration, Guess}
 use Rattle.lowering.specs.Slots.{guessOf}
@@ -49,16 +49,6 @@ module _ (es : List Entry) (w : Fine es) where
       let (r, name) = says-labelled es low high (nameNo es j) i .so t in
       let (s′, k) = shape-of (kindNo es i) (omega (arith, r .0, a), omega (arith, r .1, b)) in
       same-record es w i j s′ s (record { inside = h; kind-is = k }) d name)
-
-  -- a label that no record declares is not found
-  pub not-declared : (l : Label) (low high : ℕ) → 1 ≤ low → high ≤ 3 → ((j : ℕ) (s : Shape) → Declares es j s → nameNo es j ≡ l → ⊥)
-      → lowestOr (length es) (labelled es low high l) ≡ length es
-  not-declared l low high a b never =
-      sym
-      (lowest-nowhere (length es) (labelled es low high l)
-      (λ i h. refuted (says-labelled es low high l i)
-      (λ t. let (s, k) = shape-of (kindNo es i) (omega (arith, t .0 .0, a), omega (arith, t .0 .1, b)) in
-      never i s (record { inside = h; kind-is = k }) (t .1))))
 
   -- a guess is found by its label
   pub guess-found : (g : ℕ) → g < length es → Guess (kindNo es g) → lowestOr (length es) (labelled es pairGuess numberGuess (nameNo es g)) ≡ g

@@ -1,14 +1,14 @@
 -- 36, 37 and 38, in that order, behind what the check tells: each test says its lack. Assumes nothing.
 use mathlib.Core.Path.{_≡_, refl}
-use mathlib.Core.Logic.{inl, inr, _↔_}
+use mathlib.Core.Logic.{inl, inr}
 use mathlib.Core.Bool.{Bool, true, false, cond}
 use mathlib.Core.List.{List}
 use Prim.Native.Nat.{ℕ, _+_}
 use native.Mathlib.Omega.{arith}
 use lib.ListN.{length}
-use Rattle.refusal.specs.First.{passed, refused, lowest, first, Told}
+use Rattle.refusal.specs.First.{passed, refused, lowest, first}
 use Rattle.refusal.proofs.Says.{Says, says-lt, says-or}
-use Rattle.refusal.proofs.Right.{refused-iff, passed-iff}
+use Rattle.refusal.proofs.Right.{passed-iff}
 use Rattle.record.specs.Entry.{Entry}
 use Rattle.drawing.specs.Faults.{Fault, numberOf}
 use Rattle.drawing.specs.Check.{checkOf}
@@ -19,15 +19,10 @@ use Rattle.lowering.specs.Lower.{Room, Lack, few-ids, short-slices, shor
 use Rattle.lowering.specs.Demand.{Enough}
 
 module _ (es : List Entry) (room : Room) where
-  says-lacking : (f : Lack) (i : ℕ) → Says (lacking es room f) (Lacking es room f)
+  pub says-lacking : (f : Lack) (i : ℕ) → Says (lacking es room f) (Lacking es room f)
   says-lacking few-ids i = says-lt _ _
   says-lacking short-slices i = says-or (says-lt _ _) (says-lt _ _)
   says-lacking short-rows i = says-lt _ _
-
-  -- a lack is told exactly if it is the first of the order that holds
-  pub lack-refuses : (f : Lack) (i : ℕ) → (lackOf es room ≡ refused f i) ↔ Told (λ f i. Lacking es room f) 1 lackOrder f i
-  unfolding lackOf
-  lack-refuses f i = refused-iff (λ f i. lacking es room f) (λ f i. Lacking es room f) says-lacking 1 lackOrder f i
 
   -- the same, test by test
   pub lack-is : lackOf es room

@@ -11,6 +11,7 @@ pub mod Named
 pub mod Rows
 pub mod Bytes
 pub mod Lacking
+pub mod Refusals
 pub mod Demand
 pub mod Examples
 pub mod Pushing

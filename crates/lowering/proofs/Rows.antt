@@ -7,7 +7,7 @@ use mathlib.Core.List.{List, [], _∷_, _++_, append-nil}
 use Prim.Native.Nat.{ℕ, zero, suc, _+_, _≤_, _<_}
 use native.Mathlib.Omega.{arith}
 use lib.Dec.{eqb, ltb, leb}
-use lib.ListN.{length, take, length-append}
+use lib.ListN.{length, take}
 use borrow.Author.Tests.{eqb-true, le-ltb, leb-true}
 use Rattle.ground.specs.Words.{bytes}
 use Rattle.refusal.specs.First.{allBelow}
@@ -17,7 +17,7 @@ use Rattle.layout.proofs.Onward.{length-onward}
 use Rattle.record.specs.Kinds.{kindAt}
 use Rattle.record.specs.Entry.{Label, Entry, entryAt, labelNo}
 use Rattle.record.specs.Sound.{Sound}
-use Rattle.index.specs.Labels.{kindNo, nameNo, same, labelled, lowestOr}
+use Rattle.index.specs.Labels.{kindNo, nameNo, same}
 use Rattle.index.proofs.Laws.{says-same}
 use Rattle.drawing.specs.Needs as needs
 use needs.{Shape, point, circle, arc, Need, needAt}
@@ -27,8 +27,7 @@ use Rattle.lowering.specs.Rows.{whole, part, center, namingOf, names, na
 use Rattle.lowering.specs.Offsets.{componentAt, widthOf, idsAt, sumTo, idsOfKind}
 use Rattle.lowering.specs.Demand.{slotAt, Declares, Carries}
 use Rattle.lowering.proofs.Lists.{sum-to, sum-flat, sum-mono}
-use Rattle.lowering.proofs.Fine.{Fine, plain-no-dot, plain-name, same-stem}
-use Rattle.lowering.proofs.Found.{not-declared}
+use Rattle.lowering.proofs.Fine.{Fine}
 use Rattle.lowering.proofs.Ids.{ids-named, ids-has, ids-rise}
 use Rattle.lowering.proofs.Named.{says-names, PairPart, the-point, circle-center, arc-center, XY, whole-ids, part-ids, center-ids}
 
@@ -196,15 +195,3 @@ module _ (es : List Entry) (w : Fine es) (next i : ℕ) (h : i < length es) (u :
         all = λ j b n. ids-has p next (slots es) j b (says-names (namingOf (e .kind)) (e .third) l (slotAt es j) .back n) (next + j) refl;
         rising = ids-rise p next (slots es);
       }
-
--- ---- a center's label is no declared one
-
-pub center-not-declared : (es : List Entry) → Fine es → (j : ℕ) (s : Shape) → Declares es j s → (low high : ℕ) → 1 ≤ low → high ≤ 3
-    → lowestOr (length es) (labelled es low high (nameNo es j ++ bytes ".center")) ≡ length es
-center-not-declared es w j s d low high a b =
-    not-declared es w (nameNo es j ++ bytes ".center") low high a b
-    (λ i t f e.
-    let stem : nameNo es i ≡ nameNo es j =
-    same-stem (nameNo es i) (nameNo es j) [] (bytes ".center") (plain-no-dot (plain-name es w i t f)) (plain-no-dot (plain-name es w j s d)) (inl refl) (inr (_, refl)) (append-nil (nameNo es i) ∙ e) in
-    let long : length (nameNo es j ++ bytes ".center") ≡ length (nameNo es j) + 7 = length-append (nameNo es j) (bytes ".center") in
-    omega (arith, long, ap length e, ap length stem))

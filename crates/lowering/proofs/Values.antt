@@ -2,19 +2,19 @@
 use mathlib.Core.Path.{_≡_, refl, sym, ap, _∙_, subst}
 use mathlib.Core.Bool.{Bool, true, false, cond}
 use mathlib.Core.List.{List, [], _∷_, _++_, map, map-append, List·Memᴰ}
-use Prim.Native.Nat.{ℕ, suc, _<_}
+use Prim.Native.Nat.{ℕ, _<_}
 use lib.Dec.{eqb}
-use lib.ListN.{length, getD, take, length-map}
+use lib.ListN.{length, getD, length-map}
 use lib.Ieee.{Float, nan, binary64, ofBits}
 use Rattle.refusal.specs.First.{EachBelow}
 use Rattle.record.specs.Entry.{Label, Entry}
-use Rattle.index.specs.Labels.{kindNo, nameNo, within}
-use Rattle.drawing.specs.Needs.{Shape, point, circle, arc, declaring, pairGuess, Part, parts}
+use Rattle.index.specs.Labels.{nameNo}
+use Rattle.drawing.specs.Needs.{Shape, point, circle, arc, pairGuess, Part, parts}
 use Rattle.drawing.specs.Faults.{Guess}
 use Rattle.lowering.specs.Slots.{Slot, slot, x-axis, y-axis, no-axis, slotsOfPart, slotsOfShape, slotsOf, slots, numberFor, startOf, valuesOf}
 use Rattle.lowering.specs.Demand.{noSlot, slotAt, Starts}
 use Rattle.lowering.proofs.Lists.{Each, each-at, each-flat, each-mem, getD-map}
-use Rattle.lowering.proofs.Counts.{length-shape, slots-more}
+use Rattle.lowering.proofs.Counts.{length-shape}
 use Rattle.lowering.proofs.Fine.{Fine}
 use Rattle.lowering.proofs.Found.{guess-kind, guess-of}
 use Rattle.lowering.proofs.Places.{component-at, label-of}
@@ -71,16 +71,3 @@ module _ (es : List Entry) where
   values-parts =
       map-append (startOf es) (slotsOf point es) (slotsOf circle es ++ slotsOf arc es)
       ∙ ap (λ (l : List Float). map (startOf es) (slotsOf point es) ++ l) (map-append (startOf es) (slotsOf circle es) (slotsOf arc es))
-
-  -- the values of a kind's slots, one record more
-  pub values-more : (s : Shape) (i : ℕ) → i < length es
-      → map (startOf es) (slotsOf s (take (suc i) es))
-      ≡ map (startOf es) (slotsOf s (take i es)) ++ cond (within (declaring s) (declaring s) (kindNo es i)) (map (startOf es) (slotsOfShape s (nameNo es i))) []
-  values-more s i h =
-      ap (map (startOf es)) (slots-more s es i h)
-      ∙ map-append (startOf es) (slotsOf s (take i es)) (cond (within (declaring s) (declaring s) (kindNo es i)) (slotsOfShape s (nameNo es i)) [])
-      ∙ ap (λ (l : List Float). map (startOf es) (slotsOf s (take i es)) ++ l) (go (within (declaring s) (declaring s) (kindNo es i)))
-    where
-      go : (b : Bool) → map (startOf es) (cond b (slotsOfShape s (nameNo es i)) []) ≡ cond b (map (startOf es) (slotsOfShape s (nameNo es i))) []
-      go true = refl
-      go false = refl

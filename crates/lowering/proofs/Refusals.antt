@@ -1,0 +1,118 @@
+-- Lowering is refused with a number at a place exactly if that is the first of 30 to 38 that holds, at its lowest place: the check and what is lacking,
+-- one behind the other, are one search through the one order. Assumes nothing.
+use mathlib.Core.Path.{_≡_, refl, _∙_, sym}
+use mathlib.Core.Logic.{_↔_}
+use mathlib.Core.Bool.{Bool, true, false, _&&_}
+use mathlib.Core.Option.{Option, none, some}
+use mathlib.Core.List.{List, [], _∷_, _++_, map}
+use Prim.Native.Nat.{ℕ, zero, suc, _+_}
+use native.Mathlib.Omega.{arith}
+use lib.Dec.{eqb}
+use lib.ListN.{length}
+use borrow.Author.Tests.{ne-eqb}
+use Rattle.refusal.specs.First.{Answer, passed, refused, lowest, tell, first, Told, NoneHolds}
+use Rattle.refusal.proofs.Says.{Says, says-and, says-eq}
+use Rattle.refusal.proofs.Right.{refused-iff, passed-iff}
+use Rattle.record.specs.Entry.{Entry}
+use Rattle.record.specs.Formed.{places}
+use Rattle.drawing.specs.Faults.{Fault, order, numberOf}
+use Rattle.drawing.specs.Check.{test, checkOf}
+use Rattle.drawing.proofs.Agree.{agree}
+use Rattle.lowering.specs.declared.Lowered.{Lowered}
+use Rattle.lowering.specs.declared.Lowered.the-variants as L
+use Rattle.lowering.specs.Slots.{slots, layoutOf}
+use Rattle.lowering.specs.Rows.{rulesOf}
+use Rattle.lowering.specs.Lower.{Room, Lack, lackOrder, lackNumber, lacking, lackOf, behind, lowerOf}
+use Rattle.lowering.specs.Refusals.{Cause, fault, lack, causes, causeNumber, Causes}
+use Rattle.lowering.proofs.Lacking.{says-lacking}
+
+-- ---- one answer behind another
+
+-- the fault that the check found, or else what is lacking
+abbrev either : Answer Fault → Answer Cause → Answer Cause
+either (refused f i) rest = refused (fault f) i
+either passed rest = rest
+
+-- a lack, as a cause
+abbrev lacked : Answer Lack → Answer Cause
+lacked (refused l i) = refused (lack l) i
+lacked passed = passed
+
+in-turn : (a : Answer Fault) (b : Answer Lack) (last : Lowered) → behind numberOf a (behind lackNumber b last) ≡ behind causeNumber (either a (lacked b)) last
+in-turn (refused f i) b last = refl
+in-turn passed (refused l i) last = refl
+in-turn passed passed last = refl
+
+-- ---- one search
+
+-- what holds at 0 alone is looked for there
+at-zero : (n : ℕ) (b : Bool) → lowest (suc n) (λ i. eqb i 0 && b) ≡ lowest 1 (λ i. b)
+unfolding lowest
+at-zero zero b = refl
+at-zero (suc n) true = rw (at-zero n true) refl
+at-zero (suc n) false = rw (at-zero n false, ne-eqb (suc n) 0 (λ e. omega arith)) refl
+
+module _ (es : List Entry) (room : Room) where
+  -- what a drawing is lowered to where nothing is refused
+  abbrev pub good : Lowered
+  good = L.Good (layoutOf es) (room .next + length (slots es)) (length (rulesOf es))
+
+  abbrev tests : Cause → ℕ → Bool
+  tests (fault f) i = test es f i
+  tests (lack l) i = eqb i 0 && lacking es room l
+
+  says : (c : Cause) (i : ℕ) → Says (tests c i) (Causes es room c i)
+  says (fault f) i = agree es f i
+  says (lack l) i = says-and (says-eq i 0) (says-lacking es room l i)
+
+  faults-first : (fs : List Fault) (rest : List Cause) → first (map fault fs ++ rest) tests (places es) ≡ either (first fs (test es) (places es)) (first rest tests (places es))
+  unfolding first
+  faults-first [] rest = refl
+  faults-first (f ∷ fs) rest = rw (faults-first fs rest) (go (lowest (places es) (test es f)))
+    where
+      go : (o : Option ℕ) → tell (fault f) o (either (first fs (test es) (places es)) (first rest tests (places es))) ≡ either (tell f o (first fs (test es) (places es))) (first rest tests (places es))
+      go (some i) = refl
+      go none = refl
+
+  lacks-behind : (ls : List Lack) → first (map lack ls) tests (places es) ≡ lacked (first ls (λ l i. lacking es room l) 1)
+  unfolding first
+  lacks-behind [] = refl
+  lacks-behind (l ∷ ls) = rw (at-zero _ (lacking es room l), lacks-behind ls) (go (lowest 1 (λ i. lacking es room l)))
+    where
+      go : (o : Option ℕ) → tell (lack l) o (lacked (first ls (λ l i. lacking es room l) 1)) ≡ lacked (tell l o (first ls (λ l i. lacking es room l) 1))
+      go (some i) = refl
+      go none = refl
+
+  abbrev told : Answer Cause
+  told = first causes tests (places es)
+
+  lower-is : lowerOf es room ≡ behind causeNumber told good
+  unfolding lowerOf checkOf lackOf
+  lower-is =
+      in-turn (checkOf es) (lackOf es room) good
+      ∙ rw (faults-first order (map lack lackOrder), lacks-behind lackOrder) refl
+
+  -- ---- in words
+
+  -- the cause behind a number
+  because : (a : Answer Cause) (number place : ℕ) → behind causeNumber a good ≡ L.Refused number place → (c : Cause) × (causeNumber c ≡ number) × (a ≡ refused c place)
+  because (refused c i) number place e = let n : causeNumber c ≡ number = cc in let p : i ≡ place = cc in (c, n, cc)
+  because passed number place e = let z : _≡_ {A = ℕ} 0 1 = cc in absurd (omega arith)
+
+  -- a number is told at a place exactly if it is that of the first cause of the order that holds anywhere, and the place is the lowest where it holds
+  pub lower-refused-iff : (number place : ℕ) → (lowerOf es room ≡ L.Refused number place) ↔ ((c : Cause) × (causeNumber c ≡ number) × Told (Causes es room) (places es) causes c place)
+  lower-refused-iff number place = (
+    λ e. let (c, n, w) = because told number place (sym lower-is ∙ e) in (c, n, refused-iff tests (Causes es room) says (places es) causes c place .0 w),
+    λ w. lower-is ∙ rw (refused-iff tests (Causes es room) says (places es) causes (w .0) place .1 (w .2), w .1) refl,
+  )
+
+  -- and a drawing is lowered exactly if none of them holds
+  pub lower-good-iff : (lowerOf es room ≡ good) ↔ NoneHolds (Causes es room) (places es) causes
+  lower-good-iff = (
+    λ e. passed-iff tests (Causes es room) says (places es) causes .0 (none-told told (sym lower-is ∙ e)),
+    λ n. lower-is ∙ rw (passed-iff tests (Causes es room) says (places es) causes .1 n) refl,
+  )
+    where
+      none-told : (a : Answer Cause) → behind causeNumber a good ≡ good → a ≡ passed
+      none-told passed e = refl
+      none-told (refused c i) e = let z : _≡_ {A = ℕ} 0 1 = cc in absurd (omega arith)
