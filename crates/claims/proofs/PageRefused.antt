@@ -1,0 +1,53 @@
+-- What the check and lowering refuse of a page, said of its lines: the records that the whole reading writes are the lines of the page, and 30 holds of
+-- none of them. Assumes nothing.
+use mathlib.Core.Path.{_≡_}
+use mathlib.Core.Logic.{_↔_}
+use mathlib.Core.Bool.{true}
+use mathlib.Core.List.{List, _∷_, _++_, map}
+use Prim.Native.Nat.{ℕ}
+use Rattle.refusal.specs.First.{Nowhere, Told, this, later}
+use Rattle.record.specs.Formed.{places, Malformed, entries}
+use Rattle.reader.specs.declared.Reading.the-variants as reading
+use Rattle.reader.specs.Page.{linesOf, Reads}
+use Rattle.reader.proofs.WellRead.{writtenIn, never-30, entries-read}
+use Rattle.drawing.specs.declared.Checked.the-variants as checked
+use Rattle.drawing.specs.Faults.{Fault, malformed, behind30, order, numberOf, Holds}
+use Rattle.drawing.specs.Check.{checkedOf}
+use Rattle.drawing.proofs.Told.{refused-iff}
+use Rattle.lowering.specs.declared.Lowered.the-variants as L
+use Rattle.lowering.specs.Lower.{Room, lackOrder, lowerOf}
+use Rattle.lowering.specs.Refusals.{Cause, fault, lack, causeNumber, Causes}
+use Rattle.lowering.proofs.Refusals.{lower-refused-iff}
+
+-- a fault that holds nowhere is never told, and those behind it are told without it
+module _ {F : Type 0} (Holds : F → ℕ → Type 0) (n : ℕ) {g : F} {order : List F} (never : Nowhere (Holds g) n) where
+  without : {f : F} {i : ℕ} → Told Holds n (g ∷ order) f i → Told Holds n order f i
+  without (this l) = absurd (never _ (l .inside) (l .here))
+  without (later _ t) = t
+
+module _ (text buffer : List ℕ) (instructions guesses end : ℕ) (buffer′ : List ℕ) (read : Reads true text buffer (reading.Good instructions guesses end) buffer′) where
+  -- the records of the page
+  abbrev pub records : List ℕ
+  records = writtenIn instructions guesses buffer′
+
+  lines-are : entries text records ≡ linesOf text
+  lines-are = entries-read true text buffer instructions guesses end buffer′ read
+
+  never : Nowhere (Malformed (linesOf text)) (places (linesOf text))
+  never = rw lines-are at (never-30 true text buffer instructions guesses end buffer′ read)
+
+  -- the check refuses the page with a fault's number at a line exactly if that is the first of 31 to 35 that holds, at its lowest line
+  pub page-refused-iff : (f : Fault) (place : ℕ) → (checkedOf (entries text records) ≡ checked.Refused (numberOf f) place) ↔ Told (Holds (linesOf text)) (places (linesOf text)) behind30 f place
+  page-refused-iff f place =
+      let t = refused-iff (linesOf text) f place in
+      rw lines-are (λ e. without (Holds (linesOf text)) (places (linesOf text)) never (t .0 e), λ w. t .1 (later never w))
+
+  -- and lowering refuses it with a number at a place exactly if that is the first of 31 to 38
+  pub page-lower-refused-iff : (room : Room) (number place : ℕ) → (lowerOf (entries text records) room ≡ L.Refused number place)
+      ↔ ((c : Cause) × (causeNumber c ≡ number) × Told (Causes (linesOf text) room) (places (linesOf text)) (map fault behind30 ++ map lack lackOrder) c place)
+  page-lower-refused-iff room number place =
+      let t = lower-refused-iff (linesOf text) room number place in
+      rw lines-are (
+        λ e. let (c, n, w) = t .0 e in (c, n, without (Causes (linesOf text) room) (places (linesOf text)) never w),
+        λ w. t .1 (w .0, w .1, later never (w .2)),
+      )
