@@ -1,3 +1,3 @@
 pub mod Marked
-pub mod PageToRows
 pub mod PageRefused
+pub mod PageToRows

@@ -11,7 +11,7 @@ use Rattle.reader.specs.declared.Reading.the-variants as reading
 use Rattle.reader.specs.Page.{linesOf, Reads}
 use Rattle.reader.proofs.WellRead.{writtenIn, never-30, entries-read}
 use Rattle.drawing.specs.declared.Checked.the-variants as checked
-use Rattle.drawing.specs.Faults.{Fault, malformed, behind30, order, numberOf, Holds}
+use Rattle.drawing.specs.Faults.{Fault, behind30, numberOf, Holds}
 use Rattle.drawing.specs.Check.{checkedOf}
 use Rattle.drawing.proofs.Told.{refused-iff}
 use Rattle.lowering.specs.declared.Lowered.the-variants as L
@@ -30,10 +30,10 @@ module _ (text buffer : List ℕ) (instructions guesses end : ℕ) (buffer′ : 
   abbrev pub records : List ℕ
   records = writtenIn instructions guesses buffer′
 
-  lines-are : entries text records ≡ linesOf text
+  pub lines-are : entries text records ≡ linesOf text
   lines-are = entries-read true text buffer instructions guesses end buffer′ read
 
-  never : Nowhere (Malformed (linesOf text)) (places (linesOf text))
+  pub never : Nowhere (Malformed (linesOf text)) (places (linesOf text))
   never = rw lines-are at (never-30 true text buffer instructions guesses end buffer′ read)
 
   -- the check refuses the page with a fault's number at a line exactly if that is the first of 31 to 35 that holds, at its lowest line
