@@ -32,7 +32,7 @@ read c =
     let s = c .before .before .before .before .before .before .before .before .before .before in
     let a = s .args in
     let l = c .before .before .before .before .loop in
-    wrong-place-is (a .text .now) (a .records .now) (a .i) (a .kind) (s .pre .2) (l .q) _ (c .before .before .label-at .ensures) _ _
+    wrong-place-is (a .text .now) (a .records .now) (a .i) (a .kind) (s .pre .2) (l .q) _ (c .before .before .label-at .ensures .is) _ _
     (code-read (a .kinds .now) (s .pre .0) (a .kind) (l .q) _ (omega (arith, four-labels (a .kind), l .inv .0)) (c .before .look2 .ensures)) (c .meets .ensures)
 
 returns : tie.Need-returns Inv-loop μ-loop

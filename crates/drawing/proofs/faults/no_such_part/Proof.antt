@@ -12,7 +12,7 @@ returns c =
     let s = c .before .before .before .before .before .before .before .before .before in
     let a = s .args in
     let k = c .before .before .before .before .kind-at in
-    wrong-place-is (a .text .now) (a .records .now) (a .i) (k .result) (k .ensures) 0 _ (c .before .before .label-at .ensures) _ _
+    wrong-place-is (a .text .now) (a .records .now) (a .i) (k .result) (k .ensures) 0 _ (c .before .before .label-at .ensures .is) _ _
     (code-read (a .kinds .now) (s .pre .0) (k .result) 0 _ (omega arith) (c .before .look .ensures)) (c .meets .ensures)
     ∙ no-such-part-yes (a .text .now) (a .records .now) (a .i) (k .result) (k .ensures) (c .before .before .before .if1 .taken)
 

@@ -15,19 +15,19 @@ returns-2 : tie.Need-returns-2
 returns-2 c =
     let a = c .before .before .before .before .before .before .before .before .before .before .args in
     let k = c .before .before .before .before .before .kind-at in
-    lacks-point (a .text .now) (a .records .now) (a .i) (k .result) (k .ensures) _ (c .before .before .before .label-at .ensures) (omega arith) _ (c .guessed .ensures)
+    lacks-point (a .text .now) (a .records .now) (a .i) (k .result) (k .ensures) _ (c .before .before .before .label-at .ensures .is) (omega arith) _ (c .guessed .ensures)
 
 returns-3 : tie.Need-returns-3
 returns-3 c =
     let a = c .before .before .before .before .before .before .before .before .before .before .before .before .args in
     let k = c .before .before .before .before .before .before .before .kind-at in
-    lacks-circle (a .text .now) (a .records .now) (a .i) (k .result) (k .ensures) _ (c .before .before .before .before .before .label-at .ensures) (omega arith) _ _ (c .before .before .guessed2 .ensures) (c .guessed3 .ensures)
+    lacks-circle (a .text .now) (a .records .now) (a .i) (k .result) (k .ensures) _ (c .before .before .before .before .before .label-at .ensures .is) (omega arith) _ _ (c .before .before .guessed2 .ensures) (c .guessed3 .ensures)
 
 returns-4 : tie.Need-returns-4
 returns-4 c =
     let a = c .before .before .before .before .before .before .before .before .before .before .before .before .before .before .args in
     let k = c .before .before .before .before .before .before .before .before .before .kind-at in
-    lacks-arc (a .text .now) (a .records .now) (a .i) (k .result) (k .ensures) _ (c .before .before .before .before .before .before .before .label-at .ensures) (omega arith) _ _ _ (c .before .before .before .before .guessed4 .ensures) (c .before .before .guessed5 .ensures) (c .guessed6 .ensures)
+    lacks-arc (a .text .now) (a .records .now) (a .i) (k .result) (k .ensures) _ (c .before .before .before .before .before .before .before .label-at .ensures .is) (omega arith) _ _ _ (c .before .before .before .before .guessed4 .ensures) (c .before .before .guessed5 .ensures) (c .guessed6 .ensures)
 
 returns-5 : tie.Need-returns-5
 returns-5 c =

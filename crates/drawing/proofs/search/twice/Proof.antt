@@ -9,7 +9,7 @@ returns c =
     let s = c .before .before .before .before .before .before .before .before in
     let a = s .args in
     twice-yes (a .text .now) (a .records .now) (a .i) _ (c .before .before .before .kind-at .ensures) (a .low) (a .high) (a .heads .now) (a .nexts .now) (s .pre .0) (s .pre .1)
-    _ _ (c .before .before .if1 .taken) (c .before .label-at .ensures) (c .find .ensures)
+    _ _ (c .before .before .if1 .taken) (c .before .label-at .ensures .is) (c .find .ensures)
 
 returns-2 : tie.Need-returns-2
 returns-2 c =

@@ -29,7 +29,7 @@ add-label-requires c κs =
     let s = c .before .before .before .before .before .before .before .before .before .before .before .before .before .before in
     let a = s .args in
     let i = c .before .before .before .before .loop in
-    let name = c .before .before .label-at .ensures ∙ sym (drawn-label (a .text .now) (a .records .now) (a .i) _) in
+    let name = c .before .before .label-at .ensures .is ∙ sym (drawn-label (a .text .now) (a .records .now) (a .i) _) in
     let inside : i .q < length (entryAt (drawn (a .text .now) (a .records .now)) (a .i) .labels) = omega (arith, i .inv .0) in
     (s .pre .1, addable (a .text .now) (a .records .now) (a .i) _ (c .before .before .before .before .before .before .decode-record .ensures) (a .kinds .now) (s .pre .0) (a .l) (a .ids .now) (s .pre .2) _ (i .q) (c .before .look2 .ensures) inside _ name (room-for _ _ _ _ (i .inv .1) inside (s .pre .2) (s .pre .3)))
 
@@ -38,7 +38,7 @@ loop-again c =
     let s = c .before .before .before .before .before .before .before .before .before .before .before .before .before .before .before .before .before in
     let a = s .args in
     let i = c .before .before .before .before .before .before .before .loop in
-    let name = c .before .before .before .before .before .label-at .ensures ∙ sym (drawn-label (a .text .now) (a .records .now) (a .i) _) in
+    let name = c .before .before .before .before .before .label-at .ensures .is ∙ sym (drawn-label (a .text .now) (a .records .now) (a .i) _) in
     let inside : i .q < length (entryAt (drawn (a .text .now) (a .records .now)) (a .i) .labels) = omega (arith, i .inv .0) in
     let add = c .before .before .add-label in
     (i .inv .0, filling-turn _ _ _ _ (i .inv .1) inside _ _ (add .kept .1 .1 .1 .1 .1 .1 .1 .1 .1 .1 .0) (added-of (a .text .now) (a .records .now) (a .i) _ (c .before .before .before .before .before .before .before .before .before .decode-record .ensures) (a .kinds .now) (s .pre .0) (a .l) (a .ids .now) (s .pre .2) _ (i .q) (c .before .before .before .before .look2 .ensures) inside _ name (add .ensures)))

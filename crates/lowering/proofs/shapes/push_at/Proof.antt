@@ -20,7 +20,7 @@ returns-2 c =
     let es = drawn (a .text .now) (a .records .now) in
     let k = c .before .before .before .before .before .before .before .before .before .before .before .before .kind-at in
     pushed-one es (a .kind) (a .i) _ _ (k .ensures ∙ sym (drawn-kind (a .text .now) (a .records .now) (a .i))) (c .before .before .before .before .before .before .before .before .before .before .before .if1 .left) _ _
-    (c .before .before .before .before .before .before .before .before .before .label-at .ensures ∙ sym (drawn-label (a .text .now) (a .records .now) (a .i) 0))
+    (c .before .before .before .before .before .before .before .before .before .label-at .ensures .is ∙ sym (drawn-label (a .text .now) (a .records .now) (a .i) 0))
     (rw (c .before .layout-after .ensures, c .next-after .ensures) (push-state (shapeFor es (shapeOf (a .kind)) (c .before .before .before .before .before .before .before .before .before .label-at .result .now)) _ _ _ _ _ _ _ (c .before .before .before .before .before .before .push-shape .ensures)))
 
 pub push-at-spec : {M : Type 1} → statement M
