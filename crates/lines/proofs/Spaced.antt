@@ -10,7 +10,6 @@ use Rattle.ground.specs.Words.{bytes}
 use Rattle.print.specs.Print.{lastDigits, hexOf, decimalOf, digitsOf, width, zeros, mostDigits}
 use Rattle.print.specs.declared.Digits.{Digits}
 use Rattle.record.specs.declared.Record.{Record}
-use Rattle.record.specs.declared.kinds.Kind.{Kind}
 use Rattle.record.specs.Kinds.{kindAt, none, pair}
 use Rattle.record.specs.Entry.{startOf, lenOf, named, upTo, entryOf}
 use Rattle.lines.specs.declared.words.Part.{Part}
@@ -109,15 +108,15 @@ module _ (n x y : ℕ) where
   one-number f e = rw (ne-eqb n none f, ne-eqb n pair e)
 
 -- the word of the third byte, by the kind
-module _ (kind third x y : ℕ) (k : Kind) (e : k ≡ kindAt kind) where
-  pub no-third : k .thirds ≡ 0 → spaced (numbersOf (k .number) x y) ++ newline ≡ spaced (thirdOf kind third ++ numbersOf (kindAt kind .number) x y) ++ newline
-  no-third h = rw (← e, eq-eqb (k .thirds) 0 h)
+module _ (kind third x y sort thirds : ℕ) (s : sort ≡ kindAt kind .number) (t : thirds ≡ kindAt kind .thirds) where
+  pub no-third : thirds ≡ 0 → spaced (numbersOf sort x y) ++ newline ≡ spaced (thirdOf kind third ++ numbersOf (kindAt kind .number) x y) ++ newline
+  no-third h = rw (← s, ← t, eq-eqb thirds 0 h)
 
-  pub some-third : (k .thirds ≡ 0 → ⊥)
-      → spaced (thirdWord (k .number) third ∷ []) ++ (spaced (numbersOf (k .number) x y) ++ newline) ≡ spaced (thirdOf kind third ++ numbersOf (kindAt kind .number) x y) ++ newline
+  pub some-third : (thirds ≡ 0 → ⊥)
+      → spaced (thirdWord sort third ∷ []) ++ (spaced (numbersOf sort x y) ++ newline) ≡ spaced (thirdOf kind third ++ numbersOf (kindAt kind .number) x y) ++ newline
   some-third h =
-      rw (← e, ne-eqb (k .thirds) 0 h)
-      (sym (append-assoc (spaced (thirdWord (k .number) third ∷ [])) (spaced (numbersOf (k .number) x y)) newline) ∙ two-parts [] (thirdWord (k .number) third ∷ []) (numbersOf (k .number) x y) newline)
+      rw (← s, ← t, ne-eqb thirds 0 h)
+      (sym (append-assoc (spaced (thirdWord sort third ∷ [])) (spaced (numbersOf sort x y)) newline) ∙ two-parts [] (thirdWord sort third ∷ []) (numbersOf sort x y) newline)
 
 -- a record's line, from its opening and from the third byte's word on
 pub line-parts : (w : List ℕ) (a b c : List (List ℕ)) (end : List ℕ) → (w ++ spaced a) ++ (spaced (b ++ c) ++ end) ≡ w ++ spaced (a ++ b ++ c) ++ end

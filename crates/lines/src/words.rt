@@ -13,6 +13,7 @@ use super::rail;
 use reader::Reading;
 use record::Record;
 use record::kinds;
+use record::kinds::KINDS;
 
 // The first of the words that a third byte may stand for.
 const FIRST: u8 = 1;
@@ -188,12 +189,13 @@ pub(crate) fn from_third(
 ) -> Place
     ensures { λ n. ⌜ Adds write (now (buf .entry)) p (spaced (thirdOf kind third ++ numbersOf (kindAt kind .number) x y) ++ newline) n (now (buf .exit)) ⌝ }
 {
-    let k = kinds::kind_of(kind);
-    if k.thirds == 0 {
-        return from_numbers(k.number, x, y, buf, write, p);
+    let kinds = KINDS;
+    let sort = kinds::look(&kinds, kind, kinds::SORT);
+    if kinds::look(&kinds, kind, kinds::THIRDS) == kinds::ZERO {
+        return from_numbers(sort, x, y, buf, write, p);
     }
-    let p = third_word(k.number, third, buf, write, p);
-    from_numbers(k.number, x, y, buf, write, p)
+    let p = third_word(sort, third, buf, write, p);
+    from_numbers(sort, x, y, buf, write, p)
 }
 
 // Adds a record's line.
