@@ -5,24 +5,22 @@ use mathlib.Core.List.{List, [], _∷_, List·Memᴰ, List·Memᴰ·head, List·
 use Prim.Native.Nat.{ℕ, suc, _≤_}
 use lib.ListN.{length}
 use Rattle.refusal.specs.First.{passed, refused, Nowhere, Told}
-use Rattle.refusal.proofs.Says.{Says, says-not, says-and, says-or, says-never, says-iff, says-eq, says-le, says-any}
+use Rattle.refusal.proofs.Says.{Says, says-not, says-and, says-or, says-never, says-iff, says-eq, says-any}
 use Rattle.refusal.proofs.Right.{refused-iff, passed-iff}
 use Rattle.record.specs.Kinds.{kindAt}
 use Rattle.record.specs.Entry.{Label, Entry, entryAt, labelNo}
 use Rattle.record.specs.Formed.{places}
 use Rattle.record.proofs.Told.{says-malformed}
-use Rattle.index.specs.Labels.{kindNo, nameNo, within, labelled}
+use Rattle.index.specs.Labels.{kindNo, nameNo, labelled}
 use Rattle.index.proofs.Laws.{says-same}
 use Rattle.drawing.specs.Needs.{Shape, point, circle, arc, declaring, Part, parts, Need, needAt}
 use Rattle.drawing.specs.Faults as faults
 use faults.{Named, Meets, Guessed, AnyUnguessed, WrongLabel, NoSuchPart, WithoutGuess, Fault, malformed, declared-twice, wrong-label, no-such-part, guessed-twice, without-guess, order, Holds}
 use Rattle.drawing.specs.Check as check
 use check.{twice, namedAt, named, meets, guessAt, guessed, anyUnguessed, wrongPlace, wrongLabelTest, noSuchPartTest, lacks, withoutGuessTest, test, checkOf}
+use Rattle.drawing.proofs.Laws.{says-within}
 
 -- ---- labels
-
-says-within : (low high k : ℕ) → Says (within low high k) ((low ≤ k) × (k ≤ high))
-says-within low high k = says-and (says-le low k) (says-le k high)
 
 module _ (es : List Entry) where
   says-named : (s : Shape) (suffix l : Label) → Says (named es (declaring s) suffix l) (Named es s suffix l)

@@ -1,18 +1,18 @@
 -- Labels with a suffix behind them, searches for any, tests put together, counts, and what the table of kinds tells. Assumes nothing.
 use mathlib.Core.Path.{_≡_, refl, sym, ap, _∙_}
 use mathlib.Core.Bool.{Bool, true, false, _||_, cond, true≢false}
-use mathlib.Core.List.{List, _++_}
+use mathlib.Core.List.{List, [], _++_}
 use Prim.Native.Nat.{ℕ, zero, suc, _+_, _-_, _≤_, _<_}
 use native.Mathlib.Numerals.{add-one}
 use native.Mathlib.Omega.{arith}
-use lib.ListN.{length, take, drop, length-append, take-append-drop}
+use lib.ListN.{length, take, drop, getD, length-append, take-append-drop}
 use lib.Seq.{take-at, drop-at}
 use lib.Dec.{leb, eqb}
-use borrow.Author.Tests.{leb-true}
+use borrow.Author.Tests.{leb-true, lt-ltb}
 use Rattle.ground.proofs.Lists.{all-at}
 use Rattle.refusal.specs.First.{EachBelow, anyBelow}
-use Rattle.refusal.proofs.Says.{refuted, says-once, says-so, says-and, says-iff, says-eq, says-le, says-any}
-use Rattle.record.specs.Kinds.{Kind, kinds, kindAt, noKind, labelsColumn, needsColumn, table, cell}
+use Rattle.refusal.proofs.Says.{Says, refuted, says-once, says-so, says-and, says-iff, says-eq, says-le, says-any}
+use Rattle.record.specs.Kinds.{Kind, kinds, kindAt, noKind, rows, columns, labelsColumn, needsColumn, table, cell}
 use Rattle.record.specs.Entry.{Label}
 use Rattle.record.proofs.Cells.{labels-is, needs-is}
 use Rattle.index.specs.Labels.{same, within}
@@ -64,10 +64,14 @@ pub or-false : (b : Bool) → (b || false) ≡ b
 or-false true = refl
 or-false false = refl
 
+-- a kind from one to another
+pub says-within : (low high k : ℕ) → Says (within low high k) ((low ≤ k) × (k ≤ high))
+says-within low high k = says-and (says-le low k) (says-le k high)
+
 -- a kind from one to the same is that one
 pub within-one : (kind k : ℕ) → eqb k kind ≡ within kind kind k
 within-one kind k =
-    says-once (says-eq k kind) (says-iff (λ w. omega (arith, w .0, w .1)) (λ e. (omega (arith, e), omega (arith, e))) (says-and (says-le kind k) (says-le k kind)))
+    says-once (says-eq k kind) (says-iff (λ w. omega (arith, w .0, w .1)) (λ e. (omega (arith, e), omega (arith, e))) (says-within kind kind k))
 
 -- ---- counts
 
@@ -99,5 +103,6 @@ module _ (lent : List (List ℕ)) (is : lent ≡ table) (kind : ℕ) where
   labels-read n e = e ∙ rw is (labels-is kind)
 
   -- the code of a label's place
-  pub code-read : (q code : ℕ) → q < 4 → code ≡ cell lent kind (needsColumn + q) → code ≡ codeAt kind q
-  code-read q code h e = e ∙ rw is (needs-is kind q h)
+  pub code-read : (q : ℕ) → kind < rows → q < 4 → getD (getD lent kind []) (needsColumn + q) 0 ≡ codeAt kind q
+  unfolding cell
+  code-read q k h = rw is (rw (lt-ltb kind rows k, lt-ltb (needsColumn + q) columns (omega arith)) at (needs-is kind q h))

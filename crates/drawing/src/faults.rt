@@ -2,11 +2,12 @@
 ghost use mathlib.Core.Path.{_≡_};
 ghost use Prim.Native.Nat.{_<_};
 ghost use Rattle.refusal.specs.First.{anyBelow};
-ghost use Rattle.record.specs.Kinds.{kindAt, table};
+ghost use Rattle.record.specs.Kinds.{kindAt, rows, table};
 ghost use Rattle.record.specs.Decode.{countOf as records-in, decodeAt};
 ghost use Rattle.index.specs.Labels.{drawn, lowestOr};
 ghost use Rattle.index.specs.Chains.{Chained};
-ghost use Rattle.drawing.specs.Faults.{faultAt};
+ghost use Rattle.drawing.specs.Needs.{codeAt};
+ghost use Rattle.drawing.specs.Faults.{Rule, faultAt};
 ghost use Rattle.drawing.specs.Check.{wrongPlace, wrongLabelTest, noSuchPartTest, withoutGuessTest, test};
 ghost use Rattle.drawing.specs.Tables.{Tables};
 use crate::kinds::FIRST_RULE;
@@ -26,7 +27,15 @@ use record::kinds::LABELS;
 use record::kinds::NEEDS;
 use record::kinds::look;
 
-// Whether one of the labels of record i, which is of this kind, is not what its place needs.
+// The code of label place q of a kind.
+fn code_at(kinds: &[[u8; 8]; 26], kind: u8, q: usize) -> u8
+    requires { ⌜ (now kinds ≡ table) × (kind < rows) × (q < 4) ⌝ }
+    ensures { λ r. ⌜ r ≡ codeAt kind q ⌝ }
+{
+    kinds[kind as usize][NEEDS + q]
+}
+
+// Whether one of the labels of record i, a rule of this kind, is not what its place needs.
 fn any_wrong(
     kinds: &[[u8; 8]; 26],
     text: &[u8],
@@ -36,14 +45,14 @@ fn any_wrong(
     kind: u8,
     i: usize,
 ) -> bool
-    requires { ⌜ (now kinds ≡ table) × Chained (drawn (now text) (now records)) 1 3 (now heads) (now nexts) × (kind ≡ decodeAt (now records) i .kind) ⌝ }
+    requires { ⌜ (now kinds ≡ table) × Chained (drawn (now text) (now records)) 1 3 (now heads) (now nexts) × Rule kind × (kind ≡ decodeAt (now records) i .kind) ⌝ }
     ensures { λ r. ⌜ r ≡ anyBelow (kindAt kind .labels) (wrongPlace (drawn (now (text .entry)) (now (records .entry))) i) ⌝ }
 {
     let n = look(kinds, kind, LABELS) as usize;
     let mut q = 0;
     while q < n {
         let label = label_at(text, records, i, q);
-        let code = look(kinds, kind, NEEDS + q);
+        let code = code_at(kinds, kind, q);
         if !meets(text, records, heads, nexts, code, label) {
             return true;
         }
@@ -86,7 +95,7 @@ fn no_such_part(
     let kind = kind_at(records, i);
     if (PAIR_GUESS <= kind) & (kind <= NUMBER_GUESS) {
         let label = label_at(text, records, i, 0);
-        let code = look(kinds, kind, NEEDS);
+        let code = code_at(kinds, kind, 0);
         return !meets(text, records, heads, nexts, code, label);
     }
     false

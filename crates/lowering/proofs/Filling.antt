@@ -21,10 +21,12 @@ use Rattle.record.specs.declared.Record.{Record}
 use Rattle.record.specs.Kinds.{kindAt, labelsColumn, needsColumn, table, cell}
 use Rattle.record.specs.Decode.{decodeAt}
 use Rattle.record.specs.Entry.{Label, Entry, entryAt, labelNo, entryOf}
+use Rattle.record.proofs.Cells.{needs-is}
 use Rattle.index.specs.Labels.{drawn, kindNo}
 use Rattle.index.proofs.Drawn.{drawn-at}
+use Rattle.drawing.specs.Needs.{codeAt}
 use Rattle.drawing.specs.Faults.{Rule}
-use Rattle.drawing.proofs.Laws.{four-labels, labels-read, code-read}
+use Rattle.drawing.proofs.Laws.{four-labels, labels-read}
 use Rattle.lowering.specs.declared.spans.Span.{Span}
 use Rattle.lowering.specs.Slots.{flat}
 use Rattle.lowering.specs.Rows.{Naming, namingOf, mostIds, rowBytes, encodeRow}
@@ -56,7 +58,8 @@ module _ (text records : List ℕ) (i : ℕ) (r : Record) (e : r ≡ decodeAt re
       naming-read : namingBy code ≡ namingOf (r .kind)
       naming-read =
           let inside : q < kindAt (r .kind) .labels = omega (arith, h, kind-labels) in
-          ap namingBy (code-read lent is-table (r .kind) q code (omega (arith, inside, four-labels (r .kind))) ec) ∙ naming-is (r .kind) q inside
+          let is : code ≡ codeAt (r .kind) q = ec ∙ rw is-table (needs-is (r .kind) q (omega (arith, inside, four-labels (r .kind)))) in
+          ap namingBy is ∙ naming-is (r .kind) q inside
 
       pub addable : {out : List ℕ} {m : ℕ} → m + length (labelIds (drawn text records) l ids (entryAt (drawn text records) i) (labelNo (entryAt (drawn text records) i) q)) ≤ length out
           → Addable (drawn text records) l ids (namingBy code) (r .third) name out m

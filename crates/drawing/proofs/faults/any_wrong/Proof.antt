@@ -9,7 +9,7 @@ use Rattle.refusal.specs.First.{EachBelow}
 use Rattle.record.specs.Kinds.{kindAt}
 use Rattle.index.specs.Labels.{drawn}
 use Rattle.drawing.specs.Check.{wrongPlace}
-use Rattle.drawing.proofs.Laws.{any-here, any-none, four-labels, labels-read, code-read}
+use Rattle.drawing.proofs.Laws.{any-here, any-none, four-labels, labels-read}
 use Rattle.drawing.proofs.Read.{wrong-place-is}
 use Rattle.drawing.proofs.faults.any_wrong.Statement.{statement}
 use Rattle.drawing.proofs.faults.any_wrong.Tie as tie
@@ -25,6 +25,12 @@ loop-holds c =
     let s = c .before .before .before .before .before in
     (labels-read (s .args .kinds .now) (s .pre .0) (s .args .kind) _ (c .look .ensures), omega arith, below-none _)
 
+code-at-requires : tie.Need-code-at-requires Inv-loop μ-loop
+code-at-requires c κs =
+    let s = c .before .before .before .before .before .before .before .before in
+    let l = c .before .before .loop in
+    (s .pre .0, omega (arith, s .pre .2), omega (arith, four-labels (s .args .kind), l .inv .0))
+
 -- what was read of label q
 read : (c : tie.After-meets Inv-loop μ-loop) → let a = c .before .before .before .before .before .before .before .before .before .before .args in
     not (c .meets .result) ≡ wrongPlace (drawn (a .text .now) (a .records .now)) (a .i) (c .before .before .before .before .loop .q)
@@ -32,8 +38,7 @@ read c =
     let s = c .before .before .before .before .before .before .before .before .before .before in
     let a = s .args in
     let l = c .before .before .before .before .loop in
-    wrong-place-is (a .text .now) (a .records .now) (a .i) (a .kind) (s .pre .2) (l .q) _ (c .before .before .label-at .ensures .is) _ _
-    (code-read (a .kinds .now) (s .pre .0) (a .kind) (l .q) _ (omega (arith, four-labels (a .kind), l .inv .0)) (c .before .look2 .ensures)) (c .meets .ensures)
+    wrong-place-is (a .text .now) (a .records .now) (a .i) (a .kind) (s .pre .3) (l .q) _ (c .before .before .label-at .ensures .is) _ _ (c .before .code-at .ensures) (c .meets .ensures)
 
 returns : tie.Need-returns Inv-loop μ-loop
 returns c =
@@ -55,6 +60,5 @@ returns-2 c =
 pub any-wrong-spec : {M : Type 1} → statement M
 any-wrong-spec =
     tie.close (
-    tie.spec Inv-loop μ-loop (λ c κs. search needs) (λ c. search needs) loop-holds (λ c κs. search needs) (λ c. search needs) (λ c κs. search needs)
-    (λ c κs. search needs) returns (λ c. search needs) (λ c. search needs) loop-again returns-2
+    tie.spec Inv-loop μ-loop (λ c κs. search needs) (λ c. search needs) loop-holds (λ c κs. search needs) code-at-requires (λ c κs. search needs) returns (λ c. search needs) (λ c. search needs) loop-again returns-2
     )

@@ -1,9 +1,16 @@
 -- `drawing::faults::wrong_label` meets its contract: only a rule is looked at, at each of its kind's labels. Assumes nothing.
 use borrow.Author.Needs.{needs}
 use mathlib.Core.Path.{_∙_}
+use Rattle.drawing.proofs.Laws.{says-within}
 use Rattle.drawing.proofs.Read.{wrong-label-yes, wrong-label-no}
 use Rattle.drawing.proofs.faults.wrong_label.Statement.{statement}
 use Rattle.drawing.proofs.faults.wrong_label.Tie as tie
+
+any-wrong-requires : tie.Need-any-wrong-requires
+any-wrong-requires c κs =
+    let s = c .before .before .before .before .before .before in
+    let kind = c .before .kind-at in
+    (s .pre .0, s .pre .1, says-within 4 23 (kind .result) .so (c .if1 .taken), kind .ensures)
 
 returns : tie.Need-returns
 returns c =
@@ -17,4 +24,4 @@ returns-2 c =
     wrong-label-no (a .text .now) (a .records .now) (a .i) _ (c .before .kind-at .ensures) (c .if1 .left)
 
 pub wrong-label-spec : {M : Type 1} → statement M
-wrong-label-spec = tie.close (tie.spec (λ c κs. search needs) (λ c κs. search needs) returns returns-2)
+wrong-label-spec = tie.close (tie.spec (λ c κs. search needs) any-wrong-requires returns returns-2)
