@@ -1,4 +1,4 @@
--- The number parts of the marked cases (f) to (k) of document 01, and the seams of its grammar, computed from the promises. Assumes nothing.
+-- The seams of the grammar of numbers, each computed from the promises. Assumes nothing.
 use mathlib.Core.Path.{_≡_, refl}
 use Prim.Native.Nat.{ℕ}
 use Prim.Native.String.{String}
@@ -20,24 +20,6 @@ value bits next = record { bits = bits; then = At next }
 
 abbrev pub refused : ℕ → ℕ → Number
 refused number place = noNumber (Refused number place)
-
-pub marked :
-    -- (f)
-    (reading "999999999999999" ≡ value 0x430c_6bf5_2633_fff8 15)
-    × (reading "9999999999999999" ≡ refused 8 0)
-    -- (g)
-    × (reading "1e22" ≡ value 0x4480_f0cf_064d_d592 4)
-    × (reading "1e23" ≡ refused 8 0)
-    -- (h)
-    × (reading "0.5e-22" ≡ refused 8 0)
-    -- (i)
-    × (reading "-0" ≡ value 0x8000_0000_0000_0000 2)
-    -- (j)
-    × (reading "sqrt(2)" ≡ value 0x3ff6_a09e_667f_3bcd 7)
-    -- (k)
-    × (reading "sqrt(-4)" ≡ value 0x7ff8_0000_0000_0000 8)
-unfolding exprOn exprAt wordAt numberAt partAt endAt joined noDigit after numeral exponentAt closed byteOn runTo carried valueOf toBits round rootOf finiteRoot scaledRoot nearestRoot floorRoot size
-marked = (refl, refl, refl, refl, refl, refl, refl, refl)
 
 pub seams :
     -- the exponent without its digits, and behind a number that has one

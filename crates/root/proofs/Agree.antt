@@ -104,9 +104,6 @@ root-function b r (some p l k) = root-of-same b r _ k (finite-is b p l) ∙ sym 
 root-function b r (itself h e) = e ∙ sym (root-kept b (kept b h))
 root-function b r (none h e) = let k = no-root b h in e ∙ sym (root-none b (k .1) (k .0))
 
-pub root-unique : (b r s : ℕ) → IsRoot b r → IsRoot b s → r ≡ s
-root-unique b r s p q = root-function b r p ∙ sym (root-function b s q)
-
 kept-is : (b : ℕ) → (b ≡ plus-zero) ⊎ ((b ≡ minus-zero) ⊎ (b ≡ infinity)) → IsRoot b (rootOf b)
 kept-is b h = itself h (root-kept b (kept b h))
 

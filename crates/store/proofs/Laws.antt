@@ -7,21 +7,12 @@ use native.Mathlib.Omega.{arith}
 use borrow.Author.Tests.{le-leb, lt-leb}
 use lib.ListN.{length, take, drop, length-append, length-take, length-drop, take-append-drop}
 use lib.Seq.{paste, take-length, take-at, drop-at, drop-drop}
-use Rattle.store.specs.Store.{room, written, Put}
+use Rattle.store.specs.Store.{written, Put}
 
 module _ (d : List ℕ) (at : ℕ) (bs : List ℕ) where
   pub written-length : at + length bs ≤ length d → length (written d at bs) ≡ length d
   unfolding written
   written-length h = simp (length-append, length-take, length-drop) (omega arith)
-
-  -- what stands before the place, and what stands up to the bytes' end
-  pub written-before : at ≤ length d → take at (written d at bs) ≡ take at d
-  unfolding written
-  written-before h = rw append-assoc (take-at (take at d) (bs ++ drop (at + length bs) d) at (simp length-take (omega arith)))
-
-  pub written-behind : at ≤ length d → drop (at + length bs) (written d at bs) ≡ drop (at + length bs) d
-  unfolding written
-  written-behind h = drop-at (take at d ++ bs) (drop (at + length bs) d) (at + length bs) (simp (length-append, length-take) (omega arith))
 
   -- a buffer into which all bytes have been pasted
   pub pasted : (n : ℕ) → n ≡ length bs → paste d at bs n ≡ written d at bs
