@@ -5,13 +5,13 @@ use mathlib.Core.Logic.{_↔_}
 use mathlib.Core.Bool.{true}
 use mathlib.Core.List.{List, _∷_, _++_, map}
 use Prim.Native.Nat.{ℕ}
-use Rattle.refusal.specs.First.{Nowhere, Told, this, later}
+use Rattle.refusal.specs.First.{Lowest, Nowhere, Told, this, later}
 use Rattle.record.specs.Formed.{places, Malformed, entries}
 use Rattle.reader.specs.declared.Reading.the-variants as reading
 use Rattle.reader.specs.Page.{linesOf, Reads}
 use Rattle.reader.proofs.WellRead.{writtenIn, never-30, entries-read}
 use Rattle.drawing.specs.declared.Checked.the-variants as checked
-use Rattle.drawing.specs.Faults.{Fault, behind30, numberOf, Holds}
+use Rattle.drawing.specs.Faults.{Fault, malformed, behind30, numberOf, Holds}
 use Rattle.drawing.specs.Check.{checkedOf}
 use Rattle.drawing.proofs.Told.{refused-iff}
 use Rattle.lowering.specs.declared.Lowered.the-variants as L
@@ -19,7 +19,12 @@ use Rattle.lowering.specs.Lower.{Room, lackOrder, lowerOf}
 use Rattle.lowering.specs.Refusals.{Cause, fault, lack, causeNumber, Causes}
 use Rattle.lowering.proofs.Refusals.{lower-refused-iff}
 
--- a fault that holds nowhere is never told, and those behind it are told without it
+-- what is told holds at its place
+told-holds : {F : Type 0} {Holds : F → ℕ → Type 0} {n : ℕ} {order : List F} {f : F} {i : ℕ} → Told Holds n order f i → Lowest (Holds f) n i
+told-holds (this l) = l
+told-holds (later _ t) = told-holds t
+
+-- behind a fault that holds nowhere, the others are told without it
 module _ {F : Type 0} (Holds : F → ℕ → Type 0) (n : ℕ) {g : F} {order : List F} (never : Nowhere (Holds g) n) where
   without : {f : F} {i : ℕ} → Told Holds n (g ∷ order) f i → Told Holds n order f i
   without (this l) = absurd (never _ (l .inside) (l .here))
@@ -35,6 +40,10 @@ module _ (text buffer : List ℕ) (instructions guesses end : ℕ) (buffer′ : 
 
   pub never : Nowhere (Malformed (linesOf text)) (places (linesOf text))
   never = rw lines-are at (never-30 true text buffer instructions guesses end buffer′ read)
+
+  -- so 30 is never told of a page
+  pub page-never-30 : (place : ℕ) → checkedOf (entries text records) ≡ checked.Refused (numberOf malformed) place → ⊥
+  page-never-30 place e = let l = told-holds (refused-iff (linesOf text) malformed place .0 (rw lines-are at e)) in never place (l .inside) (l .here)
 
   -- the check refuses the page with a fault's number at a line exactly if that is the first of 31 to 35 that holds, at its lowest line
   pub page-refused-iff : (f : Fault) (place : ℕ) → (checkedOf (entries text records) ≡ checked.Refused (numberOf f) place) ↔ Told (Holds (linesOf text)) (places (linesOf text)) behind30 f place
