@@ -3,9 +3,10 @@
 use mathlib.Core.Path.{_≡_}
 use mathlib.Core.Logic.{_↔_}
 use mathlib.Core.Bool.{true}
-use mathlib.Core.List.{List, _∷_, _++_, map}
+use mathlib.Core.List.{List, _++_, map}
 use Prim.Native.Nat.{ℕ}
-use Rattle.refusal.specs.First.{Lowest, Nowhere, Told, this, later}
+use Rattle.refusal.specs.First.{Nowhere, Told, later}
+use Rattle.refusal.proofs.Told.{told-holds, without}
 use Rattle.record.specs.Formed.{places, Malformed, entries}
 use Rattle.reader.specs.declared.Reading.the-variants as reading
 use Rattle.reader.specs.Page.{linesOf, Reads}
@@ -19,17 +20,6 @@ use Rattle.lowering.specs.Lower.{Room, lackOrder, lowerOf}
 use Rattle.lowering.specs.Refusals.{Cause, fault, lack, causeNumber, Causes}
 use Rattle.lowering.proofs.Refusals.{lower-refused-iff}
 
--- what is told holds at its place
-told-holds : {F : Type 0} {Holds : F → ℕ → Type 0} {n : ℕ} {order : List F} {f : F} {i : ℕ} → Told Holds n order f i → Lowest (Holds f) n i
-told-holds (this l) = l
-told-holds (later _ t) = told-holds t
-
--- behind a fault that holds nowhere, the others are told without it
-module _ {F : Type 0} (Holds : F → ℕ → Type 0) (n : ℕ) {g : F} {order : List F} (never : Nowhere (Holds g) n) where
-  without : {f : F} {i : ℕ} → Told Holds n (g ∷ order) f i → Told Holds n order f i
-  without (this l) = absurd (never _ (l .inside) (l .here))
-  without (later _ t) = t
-
 module _ (text buffer : List ℕ) (instructions guesses end : ℕ) (buffer′ : List ℕ) (read : Reads true text buffer (reading.Good instructions guesses end) buffer′) where
   -- the records of the page
   abbrev pub records : List ℕ
@@ -42,14 +32,14 @@ module _ (text buffer : List ℕ) (instructions guesses end : ℕ) (buffer′ : 
   never = rw lines-are at (never-30 true text buffer instructions guesses end buffer′ read)
 
   -- so 30 is never told of a page
-  pub page-never-30 : (place : ℕ) → checkedOf (entries text records) ≡ checked.Refused (numberOf malformed) place → ⊥
+  pub page-never-30 : (place : ℕ) → checkedOf (entries text records) ≡ checked.Refused 30 place → ⊥
   page-never-30 place e = let l = told-holds (refused-iff (linesOf text) malformed place .0 (rw lines-are at e)) in never place (l .inside) (l .here)
 
   -- the check refuses the page with a fault's number at a line exactly if that is the first of 31 to 35 that holds, at its lowest line
   pub page-refused-iff : (f : Fault) (place : ℕ) → (checkedOf (entries text records) ≡ checked.Refused (numberOf f) place) ↔ Told (Holds (linesOf text)) (places (linesOf text)) behind30 f place
   page-refused-iff f place =
       let t = refused-iff (linesOf text) f place in
-      rw lines-are (λ e. without (Holds (linesOf text)) (places (linesOf text)) never (t .0 e), λ w. t .1 (later never w))
+      rw lines-are (λ e. without (t .0 e) never, λ w. t .1 (later never w))
 
   -- and lowering refuses it with a number at a place exactly if that is the first of 31 to 38
   pub page-lower-refused-iff : (room : Room) (number place : ℕ) → (lowerOf (entries text records) room ≡ L.Refused number place)
@@ -57,6 +47,6 @@ module _ (text buffer : List ℕ) (instructions guesses end : ℕ) (buffer′ : 
   page-lower-refused-iff room number place =
       let t = lower-refused-iff (linesOf text) room number place in
       rw lines-are (
-        λ e. let (c, n, w) = t .0 e in (c, n, without (Causes (linesOf text) room) (places (linesOf text)) never w),
+        λ e. let (c, n, w) = t .0 e in (c, n, without w never),
         λ w. t .1 (w .0, w .1, later never (w .2)),
       )

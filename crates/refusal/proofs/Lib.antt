@@ -1,3 +1,4 @@
 pub mod Says
 pub mod Search
 pub mod Right
+pub mod Told
