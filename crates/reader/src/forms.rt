@@ -303,7 +303,7 @@ fn gap(text: &[u8], stand: Stand, on: bool) -> Stand
 }
 
 // A keyword form, by its row in the table.
-fn keyword_form(kinds: &[[u8; 8]; 26], text: &[u8], stand: Stand, kind: u8) -> Line
+fn keyword_form(text: &[u8], stand: Stand, kind: u8, kinds: &[[u8; 8]; 26]) -> Line
     requires { ⌜ now kinds ≡ table ⌝ }
     ensures { λ r. ⌜ r ≡ keywordOn (now (text .entry)) stand kind ⌝ }
 {
@@ -344,12 +344,12 @@ fn keyword_form(kinds: &[[u8; 8]; 26], text: &[u8], stand: Stand, kind: u8) -> L
 }
 
 // A keyword form, where its word may stand there.
-fn try_keyword(kinds: &[[u8; 8]; 26], text: &[u8], stand: Stand, kind: u8) -> Line
+fn try_keyword(text: &[u8], stand: Stand, kind: u8, kinds: &[[u8; 8]; 26]) -> Line
     requires { ⌜ (now kinds ≡ table) × (2 ≤ length (wordOf kind)) ⌝ }
     ensures { λ r. ⌜ r ≡ keywordOn (now (text .entry)) stand kind ⌝ }
 {
     if may_stand(text, stand, kind) {
-        return keyword_form(kinds, text, stand, kind);
+        return keyword_form(text, stand, kind, kinds);
     }
     no_line(Stand::Nothing)
 }
@@ -375,13 +375,14 @@ fn start_of(b: u8) -> usize
 }
 
 // The first keyword form that reads at a place.
-fn keyword_forms(kinds: &[[u8; 8]; 26], text: &[u8], at: usize) -> Line
+fn keyword_forms(text: &[u8], at: usize, kinds: &[[u8; 8]; 26]) -> Line
     requires { ⌜ now kinds ≡ table ⌝ }
     ensures { λ r. ⌜ r ≡ firstOf (now (text .entry)) (At at) order ⌝ }
 {
+    let order = ORDER;
     let mut i = start_of(text::byte_at(text, at));
     while i < 18 {
-        let line = try_keyword(kinds, text, Stand::At(at), ORDER[i]);
+        let line = try_keyword(text, Stand::At(at), order[i], kinds);
         let then = line.then;
         let Stand::Nothing = then else {
             return line;
@@ -392,7 +393,7 @@ fn keyword_forms(kinds: &[[u8; 8]; 26], text: &[u8], at: usize) -> Line
 }
 
 // An assignment, and then the forms that begin with a keyword.
-fn assign_forms(kinds: &[[u8; 8]; 26], text: &[u8], at: usize, l: Label) -> Line
+fn assign_forms(text: &[u8], at: usize, l: Label, kinds: &[[u8; 8]; 26]) -> Line
     requires { ⌜ now kinds ≡ table ⌝ }
     ensures { λ r. ⌜ r ≡ assignedOn (now (text .entry)) (At at) l ⌝ }
 {
@@ -401,11 +402,11 @@ fn assign_forms(kinds: &[[u8; 8]; 26], text: &[u8], at: usize, l: Label) -> Line
     let Stand::Nothing = then else {
         return line;
     };
-    keyword_forms(kinds, text, at)
+    keyword_forms(text, at, kinds)
 }
 
 // The forms that begin with a label, and then those that begin with a keyword.
-fn dotted_forms(kinds: &[[u8; 8]; 26], text: &[u8], at: usize, l: Label) -> Line
+fn dotted_forms(text: &[u8], at: usize, l: Label, kinds: &[[u8; 8]; 26]) -> Line
     requires { ⌜ now kinds ≡ table ⌝ }
     ensures { λ r. ⌜ r ≡ behindOn (now (text .entry)) (At at) l ⌝ }
 {
@@ -419,30 +420,30 @@ fn dotted_forms(kinds: &[[u8; 8]; 26], text: &[u8], at: usize, l: Label) -> Line
     let Stand::Nothing = then else {
         return line;
     };
-    assign_forms(kinds, text, at, l)
+    assign_forms(text, at, l, kinds)
 }
 
 // The same by the byte behind the label: a point, or a bracket or a low line, which tells a keyword.
-fn label_forms(kinds: &[[u8; 8]; 26], text: &[u8], at: usize) -> Line
+fn label_forms(text: &[u8], at: usize, kinds: &[[u8; 8]; 26]) -> Line
     requires { ⌜ now kinds ≡ table ⌝ }
     ensures { λ r. ⌜ r ≡ labelFormsOn (now (text .entry)) (At at) ⌝ }
 {
     let l = text::parse_label(text, Stand::At(at));
     let then = l.then;
     let Stand::At(next) = then else {
-        return dotted_forms(kinds, text, at, l);
+        return dotted_forms(text, at, l, kinds);
     };
     let b = text::byte_at(text, next);
     if b == b'.' {
-        return dotted_forms(kinds, text, at, l);
+        return dotted_forms(text, at, l, kinds);
     }
     if b == b'(' {
-        return keyword_forms(kinds, text, at);
+        return keyword_forms(text, at, kinds);
     }
     if b == b'_' {
-        return keyword_forms(kinds, text, at);
+        return keyword_forms(text, at, kinds);
     }
-    assign_forms(kinds, text, at, l)
+    assign_forms(text, at, l, kinds)
 }
 
 // The word of a declaration and its label; the space between them may be missing.
@@ -493,7 +494,7 @@ fn declaration(text: &[u8], at: usize) -> Declared
 }
 
 // An instruction: spaces, then the first form that reads.
-pub(crate) fn parse_instruction(kinds: &[[u8; 8]; 26], text: &[u8], stand: Stand) -> Line
+pub(crate) fn parse_instruction(text: &[u8], stand: Stand, kinds: &[[u8; 8]; 26]) -> Line
     requires { ⌜ now kinds ≡ table ⌝ }
     ensures { λ r. ⌜ r ≡ instructionOn (now (text .entry)) stand ⌝ }
 {
@@ -511,7 +512,7 @@ pub(crate) fn parse_instruction(kinds: &[[u8; 8]; 26], text: &[u8], stand: Stand
         };
         return line_of(one_label(d.kind, 0, l, 0, 0), false, then);
     };
-    label_forms(kinds, text, at)
+    label_forms(text, at, kinds)
 }
 
 // What follows the label of a guess: a point pair, else a number.

@@ -79,14 +79,14 @@ fn put_line(own: &mut [u8], n: usize, line: Line) -> usize
 }
 
 // An instruction or a guess.
-fn line_at(kinds: &[[u8; 8]; 26], text: &[u8], stand: Stand, guesses: bool) -> Line
+fn line_at(text: &[u8], stand: Stand, guesses: bool, kinds: &[[u8; 8]; 26]) -> Line
     requires { ⌜ now kinds ≡ table ⌝ }
     ensures { λ r. ⌜ r ≡ lineOn guesses (now (text .entry)) stand ⌝ }
 {
     if guesses {
         return forms::parse_guess(text, stand);
     }
-    forms::parse_instruction(kinds, text, stand)
+    forms::parse_instruction(text, stand, kinds)
 }
 
 // What was read, or else another stand.
@@ -118,13 +118,13 @@ fn refuse(stand: Stand, read: Stand, number: u8) -> Stand
 
 // A line, which is due, and those that follow it, each behind one new line. Where none reads, reading stands at the last line's end.
 fn lines(
-    kinds: &[[u8; 8]; 26],
     text: &[u8],
     stand: Stand,
     guesses: bool,
     number: u8,
     own: &mut [u8],
     start: usize,
+    kinds: &[[u8; 8]; 26],
 ) -> Count
     requires { ⌜ (now kinds ≡ table) × (length (now text) ≤ longestText) × (start ≤ 400000) ⌝ }
     ensures { λ r. ⌜ StoredLines (now (own .entry)) start (linesOn guesses (now (text .entry)) stand number) (r .count) (r .then) (now (own .exit)) ⌝ }
@@ -134,7 +134,7 @@ fn lines(
     let mut n = start;
     let mut k = 0;
     while k <= text.len() {
-        let line = line_at(kinds, text, next, guesses);
+        let line = line_at(text, next, guesses, kinds);
         let then = line.then;
         let Stand::At(_) = then else {
             return Count {
@@ -175,13 +175,13 @@ fn opt_newline(text: &[u8], stand: Stand) -> Stand
 }
 
 // A page, its records stored in the reader's own buffer.
-fn read_page(kinds: &[[u8; 8]; 26], text: &[u8], own: &mut [u8]) -> Page
+fn read_page(text: &[u8], own: &mut [u8], kinds: &[[u8; 8]; 26]) -> Page
     requires { ⌜ (now kinds ≡ table) × (length (now text) ≤ longestText) ⌝ }
     ensures { λ r. ⌜ Paged (now (text .entry)) (now (own .entry)) (r .instructions) (r .guesses) (r .then) (now (own .exit)) ⌝ }
 {
     let s = heading(text, Stand::At(0), b"constraints");
     let s = refuse(Stand::At(0), s, 3);
-    let instructions = lines(kinds, text, s, false, 4, own, 0);
+    let instructions = lines(text, s, false, 4, own, 0, kinds);
     let i = instructions.count;
     let then = instructions.then;
     let s = text::newline(text, then);
@@ -190,7 +190,7 @@ fn read_page(kinds: &[[u8; 8]; 26], text: &[u8], own: &mut [u8]) -> Page
     let s = text::ws(text, gap);
     let s = heading(text, s, b"guesses");
     let s = refuse(gap, s, 6);
-    let guesses = lines(kinds, text, s, true, 7, own, i);
+    let guesses = lines(text, s, true, 7, own, i, kinds);
     let n = guesses.count;
     let s = guesses.then;
     let s = opt_newline(text, s);
@@ -284,7 +284,7 @@ fn read_into(text: &[u8], records: &mut [u8], whole: bool) -> Reading
 {
     let kinds = KINDS;
     let mut own = room();
-    let page = read_page(&kinds, text, &mut own);
+    let page = read_page(text, &mut own, &kinds);
     let then = page.then;
     match then {
         Stand::At(end) => {

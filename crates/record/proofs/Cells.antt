@@ -1,7 +1,8 @@
 -- A cell of the table of kinds is what its kind has there: one computed test of a column, and past the last row all is as it is at the
 -- first number past it. Assumes nothing.
-use mathlib.Core.Path.{_≡_, refl, sym, _∙_}
+use mathlib.Core.Path.{_≡_, refl, sym, ap, _∙_}
 use mathlib.Core.Bool.{Bool, true, false, not, cond}
+use mathlib.Core.List.{List}
 use Prim.Native.Nat.{ℕ, suc, _+_, _≤_, _<_}
 use native.Mathlib.Decide.{decLt}
 use native.Mathlib.Omega.{arith}
@@ -32,6 +33,15 @@ module _ (column : ℕ) (test : ℕ → Kind → Bool) where
     where
       all : (j : ℕ) → j < suc rows → passes j ≡ true
       all = says-all passes (λ j. passes j ≡ true) (λ j. says-so) (suc rows) .so t
+
+-- what a look at the lent table finds, where it is the table of kinds
+module _ (lent : List (List ℕ)) (k column n : ℕ) (e : lent ≡ table) (found : n ≡ cell lent k column) where
+  pub looked : {x : ℕ} → cell table k column ≡ x → n ≡ x
+  looked is = found ∙ ap (λ (t : List (List ℕ)). cell t k column) e ∙ is
+
+  -- and whether that is a value
+  pub looked-same : (value : ℕ) {b : Bool} → eqb (cell table k column) value ≡ b → eqb n value ≡ b
+  looked-same value is = ap (λ (m : ℕ). eqb m value) (looked refl) ∙ is
 
 -- ---- the columns by their names
 

@@ -1,11 +1,7 @@
 -- `reader::forms::keyword_form` meets its contract: it is its definition, call by call, with what it looks up in the table. Assumes nothing.
 use borrow.Author.Needs.{needs}
-use mathlib.Core.Path.{_≡_, ap, _∙_}
-use mathlib.Core.List.{List}
-use Prim.Native.Nat.{ℕ}
-use lib.Dec.{eqb}
-use Rattle.record.specs.Kinds.{kindAt, wordOf, with-gap, cell}
-use Rattle.record.proofs.Cells.{labels-is, number-is, gap-is}
+use Rattle.record.specs.Kinds.{wordOf, with-gap}
+use Rattle.record.proofs.Cells.{looked, looked-same, labels-is, number-is, gap-is}
 use Rattle.reader.specs.Forms.{keywordOn}
 use Rattle.reader.proofs.Table.{word-fits, word-begins}
 use Rattle.reader.proofs.forms.keyword_form.Statement.{statement}
@@ -19,14 +15,13 @@ unfolding keywordOn
 returns c =
     let start = c .before .before .before .before .before .before .before .before .before .before .before .before .before .before .before .before .before in
     let k = start .args .kind in
-    let labels : c .before .before .before .before .before .before .before .before .before .before .before .before .before .before .before .look .result ≡ kindAt k .labels
-    = c .before .before .before .before .before .before .before .before .before .before .before .before .before .before .before .look .ensures ∙ ap (λ (t : List (List ℕ)). cell t k 0) (start .pre) ∙ labels-is k in
-    let sort : c .before .before .before .before .before .look2 .result ≡ kindAt k .number = c .before .before .before .before .before .look2 .ensures ∙ ap (λ (t : List (List ℕ)). cell t k 6) (start .pre) ∙ number-is k in
-    let spelling : eqb (c .before .before .before .look3 .result) with-gap ≡ kindAt k .gap = ap (λ (n : ℕ). eqb n with-gap) (c .before .before .before .look3 .ensures ∙ ap (λ (t : List (List ℕ)). cell t k 7) (start .pre)) ∙ gap-is k in
+    let labels = looked _ k _ _ (start .pre) (c .before .before .before .before .before .before .before .before .before .before .before .before .before .before .before .look .ensures) (labels-is k) in
+    let sort = looked _ k _ _ (start .pre) (c .before .before .before .before .before .look2 .ensures) (number-is k) in
+    let gap = looked-same _ k _ _ (start .pre) (c .before .before .before .look3 .ensures) with-gap (gap-is k) in
     rw (
       ← labels,
       ← sort,
-      ← spelling,
+      ← gap,
       ← word-begins (wordOf k) (c .before .before .before .before .before .before .before .before .before .before .before .before .before .before .word-of .result) (c .before .before .before .before .before .before .before .before .before .before .before .before .before .before .word-of .ensures),
       ← c .before .before .before .before .before .before .before .before .before .before .before .before .before .keyword .ensures,
       ← c .before .before .before .before .before .before .before .before .before .before .before .before .ws .ensures,

@@ -13,10 +13,10 @@ use Rattle.reader.proofs.forms.keyword_forms.Statement.{statement}
 use Rattle.reader.proofs.forms.keyword_forms.Tie as tie
 
 abbrev Inv-loop : tie.InvT-loop
-Inv-loop kinds text at i₀ i = firstOf text (At at) order ≡ firstOf text (At at) (drop i order)
+Inv-loop text at kinds array i₀ i = firstOf text (At at) order ≡ firstOf text (At at) (drop i order)
 
 abbrev μ-loop : tie.MeasureT-loop
-μ-loop kinds text at i₀ i = 18 - i
+μ-loop text at kinds array i₀ i = 18 - i
 
 loop-holds : tie.Need-loop-holds Inv-loop μ-loop
 loop-holds c =

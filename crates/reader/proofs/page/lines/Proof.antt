@@ -9,10 +9,10 @@ use Rattle.reader.proofs.page.lines.Statement.{statement}
 use Rattle.reader.proofs.page.lines.Tie as tie
 
 abbrev Inv-loop : tie.InvT-loop
-Inv-loop kinds text guesses number own₀ start next₀ other₀ n₀ k₀ own next other n k = Left guesses text own₀ start (linesOn guesses text next₀ number) own n next other k
+Inv-loop text guesses number own₀ start kinds next₀ other₀ n₀ k₀ own next other n k = Left guesses text own₀ start (linesOn guesses text next₀ number) own n next other k
 
 abbrev μ-loop : tie.MeasureT-loop
-μ-loop kinds text guesses number own₀ start next₀ other₀ n₀ k₀ own next other n k = suc (length text) - k
+μ-loop text guesses number own₀ start kinds next₀ other₀ n₀ k₀ own next other n k = suc (length text) - k
 
 loop-holds : tie.Need-loop-holds Inv-loop μ-loop
 loop-holds c =

@@ -27,7 +27,7 @@ returns c =
     (is .ensures .then-is)
     (rw (← c .before .before .before .before .before .before .before .before .before .before .before .before .newline .ensures, ← c .before .before .before .before .before .before .before .before .before .before .before .newline2 .ensures, ← gap .ensures, ← c .before .before .before .before .before .before .before .before .before .ws .ensures, ← c .before .before .before .before .before .before .before .heading2 .ensures) (g .ensures))
     (gs .ensures .then-is)
-    (a .own .now) (is .last .1 .1 .1 .1 .1 .0) (gs .last .1 .1 .1 .1 .1 .0) (is .result .count) (gs .result .count) (is .ensures .records) (gs .ensures .records))
+    (a .own .now) (is .last .1 .1 .1 .1 .0) (gs .last .1 .1 .1 .1 .0) (is .result .count) (gs .result .count) (is .ensures .records) (gs .ensures .records))
 
 pub read-page-spec : {M : Type 1} → statement M
 read-page-spec = tie.close (tie.spec (λ c. search needs) (λ c κs. search needs) (λ c κs. search needs) (λ c κs. search needs) (λ c κs. search needs) (λ c κs. search needs) (λ c κs. search needs) (λ c κs. search needs) (λ c. search needs) (λ c κs. search needs) (λ c κs. search needs) lines-requires-2 (λ c κs. search needs) (λ c. search needs) (λ c κs. search needs) (λ c. search needs) returns)
