@@ -2,7 +2,7 @@
 -- measured and has room is written whole. Assumes nothing.
 use mathlib.Core.Path.{_≡_, refl, sym, ap, subst, _∙_}
 use mathlib.Core.Bool.{Bool, true, false, cond, true≢false}
-use mathlib.Core.List.{List, _++_}
+use mathlib.Core.List.{List, [], _++_, append-assoc, append-nil}
 use Prim.Native.Nat.{ℕ, _+_, _≤_, _<_}
 use native.Mathlib.Decide.{decLe}
 use native.Mathlib.Omega.{arith}
@@ -10,7 +10,7 @@ use lib.ListN.{length, length-append}
 use borrow.Author.Tests.{le-leb, lt-leb}
 use Rattle.store.specs.Store.{room, written, Put}
 use Rattle.store.proofs.Laws.{written-length, written-append}
-use Rattle.lines.specs.Rail.{Prints, nextPlace, Adds}
+use Rattle.lines.specs.Rail.{nextPlace, putAt, Prints, Adds}
 use Rattle.lines.specs.declared.Place.{Place}
 use Rattle.lines.specs.declared.Place.the-variants.{At, Full}
 
@@ -111,33 +111,69 @@ module _ {w : Bool} {d d₁ d₂ a b : List ℕ} {p q r : Place} where
 pub said : {w : Bool} {d d₁ a b : List ℕ} {p r : Place} → Adds w d p a r d₁ → a ≡ b → Adds w d p b r d₁
 said {w} {d} {d₁} {a} {b} {p} {r} x e = subst (λ (l : List ℕ). Adds w d p l r d₁) e x
 
--- ---- a line measured, and then written
+-- ---- a line measured, and then added
 
-module _ {line d d₁ : List ℕ} {at : ℕ} {r : Place} where
+module _ {w : Bool} {line d d₁ : List ℕ} {p r : Place} where
   -- without room
-  pub kept : Adds false d (At at) line r d₁ → r ≡ Full → Prints line d at r d₁
-  kept x e = elim (decLe (at + length line) (length d)) [
-    | yes h ↦ absurd (never-full (sym (sym e ∙ x .told ∙ next-at (length d) at (length line) h)))
-    | no f ↦ let l = lt-leb (at + length line) (length d) (omega arith) in record { told = rw l e; buffer = rw l (x .kept refl) }
-  ]
+  pub kept : Adds false d p line r d₁ → r ≡ Full → Prints w d p line r d₁
+  kept x e = record { told = x .told; buffer = x .kept refl ∙ none p (sym e ∙ x .told) w }
+    where
+      none : (q : Place) → Full ≡ nextPlace (length d) q (length line) → (v : Bool) → d ≡ cond v (putAt d q line) d
+      none q f false = refl
+      none Full f true = refl
+      none (At n) f true = elim (decLe (n + length line) (length d)) [
+        | yes h ↦ absurd (never-full (sym (f ∙ next-at (length d) n (length line) h)))
+        | no g ↦ rw (lt-leb (n + length line) (length d) (omega arith))
+      ]
 
   -- with room
-  pub printed : {d₂ : List ℕ} {q : Place} (m : ℕ) → Adds false d (At at) line r d₁ → r ≡ At m → Adds true d₁ (At at) line q d₂ → Prints line d at q d₂
-  printed m x e y =
-      let room = moved (length d) at (length line) m (sym e ∙ x .told) .room in
-      let l = le-leb (at + length line) (length d) room in
-      let again = (rw (x .kept refl) at (y .told)) ∙ next-at (length d) at (length line) room in
-      record { told = rw l again; buffer = rw l (y .put refl at (at + length line) refl again ∙ rw (x .kept refl)) }
+  pub printed : {d₂ : List ℕ} {q : Place} (m : ℕ) → Adds false d p line r d₁ → r ≡ At m → Adds w d₁ p line q d₂ → Prints w d p line q d₂
+  printed {d₂} {q} m x e y = record { told = again; buffer = put w p refl refl }
+    where
+      again : q ≡ nextPlace (length d) p (length line)
+      again = rw (x .kept refl) at (y .told)
+
+      put : (v : Bool) (t : Place) → w ≡ v → p ≡ t → d₂ ≡ cond v (putAt d t line) d
+      put false t f g = y .kept f ∙ x .kept refl
+      put true Full f g = absurd (never-full (sym e ∙ x .told ∙ ap (λ (z : Place). nextPlace (length d) z (length line)) g))
+      put true (At n) f g =
+          let room = moved (length d) n (length line) m (sym e ∙ x .told ∙ ap (λ (z : Place). nextPlace (length d) z (length line)) g) .room in
+          let there = again ∙ ap (λ (z : Place). nextPlace (length d) z (length line)) g ∙ next-at (length d) n (length line) room in
+          rw (le-leb (n + length line) (length d) room) (y .put f n (n + length line) g there ∙ rw (x .kept refl))
+
+  -- a line that was printed was added
+  pub added : Prints w d p line r d₁ → Adds w d p line r d₁
+  added x = record { told = x .told; size = ap length (x .buffer) ∙ size w p; kept = λ e. x .buffer ∙ rw e; put = put }
+    where
+      size : (v : Bool) (q : Place) → length (cond v (putAt d q line) d) ≡ length d
+      size false q = refl
+      size true Full = refl
+      size true (At n) = elim (decLe (n + length line) (length d)) [
+        | yes h ↦ rw (le-leb (n + length line) (length d) h) (written-length d n line h)
+        | no g ↦ rw (lt-leb (n + length line) (length d) (omega arith))
+      ]
+
+      put : w ≡ true → (n m : ℕ) → p ≡ At n → r ≡ At m → d₁ ≡ written d n line
+      put e n m f g =
+          let room = moved (length d) n (length line) m (sym g ∙ x .told ∙ ap (λ (z : Place). nextPlace (length d) z (length line)) f) .room in
+          let l = le-leb (n + length line) (length d) room in
+          x .buffer ∙ rw (e, f, l)
 
   -- the next place lies in the buffer, or at its end
-  pub inside : (n : ℕ) → Prints line d at r d₁ → r ≡ At n → n ≤ length d₁
-  inside n x e = elim (decLe (at + length line) (length d)) [
-    | yes h ↦
-        let l = le-leb (at + length line) (length d) h in
-        let place : n ≡ at + length line = cc (rw l at (x .told)) in
-        let size : length d₁ ≡ length d = ap length (rw l at (x .buffer)) ∙ written-length d at line h in
-        omega arith
-    | no f ↦
-        let l = lt-leb (at + length line) (length d) (omega arith) in
-        absurd (never-full (sym e ∙ (rw l at (x .told))))
-  ]
+  pub inside : (n : ℕ) → Prints w d p line r d₁ → r ≡ At n → n ≤ length d₁
+  inside n x e =
+      let k = came (length d) p (length line) n (sym e ∙ x .told) in
+      let m : Moved (length d) (k .0) (length line) n = moved (length d) (k .0) (length line) n (sym e ∙ x .told ∙ ap (λ (z : Place). nextPlace (length d) z (length line)) (k .1)) in
+      omega (arith, m .is, m .room, added x .size)
+
+-- ---- bytes added behind whatever was added before
+
+abbrev pub Behind : Bool → Place → List ℕ → List ℕ → Place → List ℕ → Type 0
+Behind w q d₁ bs r d₂ = (d : List ℕ) (p : Place) (a : List ℕ) → Adds w d p a q d₁ → Adds w d p (a ++ bs) r d₂
+
+-- none, and some more
+pub behind-none : {w : Bool} {q : Place} {d : List ℕ} → Behind w q d [] q d
+behind-none d p a x = said x (sym (append-nil a))
+
+pub behind-more : {w : Bool} {q r t : Place} {d₁ d₂ d₃ a b : List ℕ} → Behind w q d₁ a r d₂ → Adds w d₂ r b t d₃ → Behind w q d₁ (a ++ b) t d₃
+behind-more {a = a} {b} h y d p c x = said (both (h d p c x) y) (append-assoc c a b)

@@ -1,6 +1,6 @@
 -- Document 01's example of a listing, line by line, a line of each other form, and lines of a check and a lowering, by computation. Assumes nothing.
 use mathlib.Core.Path.{_≡_, refl}
-use mathlib.Core.List.{List, [], _∷_, _++_}
+use mathlib.Core.List.{List, [], _∷_}
 use Prim.Native.Nat.{ℕ}
 use Prim.Native.String.{String}
 use lib.Ieee.{binary64, ofBits, toBits}
@@ -12,7 +12,7 @@ use Rattle.layout.specs.declared.Stage.the-variants.{Done}
 use Rattle.drawing.specs.declared.Checked.the-variants as C
 use Rattle.lowering.specs.declared.Lowered.the-variants as L
 use Rattle.lowering.specs.Rows.{Row, encodeRow}
-use Rattle.lines.specs.Lines.{newline, spaced, firstLine, lineOf}
+use Rattle.lines.specs.Lines.{joined, quoted, spaced, firstLine, lineOf}
 use Rattle.lines.specs.Drawn.{checkedLine, loweredLine, slotLine, decodeRow, rowOf, rowLine}
 
 -- quoted labels
@@ -24,18 +24,8 @@ texts (w ∷ ws) = bytes w ∷ texts ws
 abbrev pub entry : ℕ → ℕ → List String → ℕ → ℕ → Entry
 entry kind third labels x y = record { kind = kind; third = third; labels = texts labels; x = x; y = y }
 
--- lines one after the other
-abbrev pub lines : List (List ℕ) → List ℕ
-lines [] = []
-lines (l ∷ ls) = l ++ lines ls
-
--- quoted lines
-abbrev pub quoted : List String → List ℕ
-quoted [] = []
-quoted (w ∷ ws) = bytes w ++ newline ++ quoted ws
-
 pub listing :
-    lines (
+    joined (
     firstLine (Good 4 3 125)
     ∷ lineOf (entry 1 0 ("p" ∷ []) 0 0)
     ∷ lineOf (entry 4 1 ("p" ∷ []) 0 0)
@@ -59,7 +49,7 @@ unfolding firstLine lineOf spaced decimalOf hexOf lastDigits widthUpTo
 listing = refl
 
 pub others :
-    lines (
+    joined (
     firstLine (Refused 10 125)
     ∷ lineOf (entry 10 2 ("a" ∷ "b" ∷ "c" ∷ "d" ∷ []) 0x3ff0000000000000 0)
     ∷ lineOf (entry 18 2 ("c" ∷ []) 0 0)
@@ -79,7 +69,7 @@ abbrev pub row : ℕ → ℕ → List ℕ → ℕ → Row
 row kind third ids bits = decodeRow (encodeRow (record { kind = kind; third = third; ids = ids; bits = bits }))
 
 pub lowering :
-    lines (
+    joined (
     checkedLine (C.Passed 2 1 1 11)
     ∷ checkedLine (C.Refused 32 1)
     ∷ loweredLine (L.Good (record { points = 2; circles = 1; arcs = 1; stage = Done }) 13 11)

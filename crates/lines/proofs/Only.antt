@@ -1,6 +1,7 @@
 -- The promise of each public function, as its source states it, determines the answer and what the buffer holds at last: each is an
 -- equation with what the entry values give. Assumes nothing.
 use mathlib.Core.Path.{_≡_}
+use mathlib.Core.Bool.{Bool}
 use mathlib.Core.List.{List}
 use Prim.Native.Nat.{ℕ}
 use borrow.Fn.Kinds.{endedOf}
@@ -21,7 +22,7 @@ use Rattle.lines.proofs.row_line.Kinds as row-line-kinds
 use Rattle.lines.proofs.row_line.Reads as row-line
 
 -- two answers, and two buffers
-module _ {line d v w : List ℕ} {at : ℕ} {x y : Place} (p : Prints line d at x v) (q : Prints line d at y w) where
+module _ {write : Bool} {d line v w : List ℕ} {at x y : Place} (p : Prints write d at line x v) (q : Prints write d at line y w) where
   same-answer : x ≡ y
   same-answer = by-equation (p .told) (q .told)
 
@@ -29,19 +30,19 @@ module _ {line d v w : List ℕ} {at : ℕ} {x y : Place} (p : Prints line d at 
   same-buffer = by-equation (p .buffer) (q .buffer)
 
 pub first-line-only : Settled (endedOf 1 first-line-kinds.ps first-line-kinds.r) first-line.Post
-first-line-only κs a x y v w p q = (same-answer p q, λ j. (tt, (same-buffer p q j, (tt, tt))))
+first-line-only κs a x y v w p q = (same-answer p q, λ j. (tt, (same-buffer p q j, (tt, (tt, tt)))))
 
 pub record-line-only : Settled (endedOf 3 record-line-kinds.ps record-line-kinds.r) record-line.Post
-record-line-only κs a x y v w p q = (same-answer p q, λ j. (tt, (tt, (tt, (same-buffer p q j, (tt, tt))))))
+record-line-only κs a x y v w p q = (same-answer p q, λ j. (tt, (tt, (tt, (same-buffer p q j, (tt, (tt, tt)))))))
 
 pub checked-line-only : Settled (endedOf 1 checked-line-kinds.ps checked-line-kinds.r) checked-line.Post
-checked-line-only κs a x y v w p q = (same-answer p q, λ j. (tt, (same-buffer p q j, (tt, tt))))
+checked-line-only κs a x y v w p q = (same-answer p q, λ j. (tt, (same-buffer p q j, (tt, (tt, tt)))))
 
 pub lowered-line-only : Settled (endedOf 1 lowered-line-kinds.ps lowered-line-kinds.r) lowered-line.Post
-lowered-line-only κs a x y v w p q = (same-answer p q, λ j. (tt, (same-buffer p q j, (tt, tt))))
+lowered-line-only κs a x y v w p q = (same-answer p q, λ j. (tt, (same-buffer p q j, (tt, (tt, tt)))))
 
 pub slot-line-only : Settled (endedOf 1 slot-line-kinds.ps slot-line-kinds.r) slot-line.Post
-slot-line-only κs a x y v w p q = (same-answer p q, λ j. (tt, (tt, (same-buffer p q j, (tt, tt)))))
+slot-line-only κs a x y v w p q = (same-answer p q, λ j. (tt, (tt, (same-buffer p q j, (tt, (tt, tt))))))
 
 pub row-line-only : Settled (endedOf 2 row-line-kinds.ps row-line-kinds.r) row-line.Post
-row-line-only κs a x y v w p q = (same-answer p q, λ j. (tt, (tt, (same-buffer p q j, (tt, tt)))))
+row-line-only κs a x y v w p q = (same-answer p q, λ j. (tt, (tt, (same-buffer p q j, (tt, (tt, tt))))))

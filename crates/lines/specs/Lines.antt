@@ -2,6 +2,7 @@
 use mathlib.Core.Bool.{cond}
 use mathlib.Core.List.{List, [], _∷_, _++_}
 use Prim.Native.Nat.{ℕ}
+use Prim.Native.String.{String}
 use lib.Dec.{eqb}
 use Rattle.ground.specs.Words.{bytes}
 use Rattle.print.specs.Print.{decimalOf, hexOf}
@@ -28,6 +29,16 @@ spaced (w ∷ ws) = (blank ∷ w) ++ spaced ws
 -- a line: words parted by blanks, and a new line
 abbrev pub lineWith : List ℕ → List (List ℕ) → List ℕ
 lineWith w ws = w ++ spaced ws ++ newline
+
+-- lines one after the other
+abbrev pub joined : List (List ℕ) → List ℕ
+joined [] = []
+joined (l ∷ ls) = l ++ joined ls
+
+-- quoted lines
+abbrev pub quoted : List String → List ℕ
+quoted [] = []
+quoted (w ∷ ws) = bytes w ++ newline ++ quoted ws
 
 -- ---- the first line
 

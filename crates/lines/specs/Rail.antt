@@ -10,17 +10,23 @@ use Rattle.lines.specs.declared.Place.{Place}
 use Rattle.lines.specs.declared.Place.the-variants.{At, Full}
 use Rattle.lines.specs.declared.words.Part.{Part}
 
--- where there is room for the line it is written, and the next place is told; where there is none, that is told and nothing changes
-pub record Prints (line d : List ℕ) (at : ℕ) (answer : Place) (after : List ℕ) : Type 0 where
-  pub told : answer ≡ cond (room d at line) (At (at + length line)) Full
-  pub buffer : after ≡ cond (room d at line) (written d at line) d
-
--- ---- how the code adds the words of a line one after the other
-
 -- where writing stands after so many bytes, in a buffer of a size
 abbrev pub nextPlace : ℕ → Place → ℕ → Place
 nextPlace size (At n) len = cond (leb (n + len) size) (At (n + len)) Full
 nextPlace size Full len = Full
+
+-- a buffer with bytes put where writing stands, if there is room for them all
+abbrev pub putAt : List ℕ → Place → List ℕ → List ℕ
+putAt d (At n) bs = cond (room d n bs) (written d n bs) d
+putAt d Full bs = d
+
+-- a line where writing stands: where there is room for it the next place is told, and the line is written if it is to be; where there
+-- is none, that is told and nothing changes
+pub record Prints (write : Bool) (d : List ℕ) (p : Place) (line : List ℕ) (answer : Place) (after : List ℕ) : Type 0 where
+  pub told : answer ≡ nextPlace (length d) p (length line)
+  pub buffer : after ≡ cond write (putAt d p line) d
+
+-- ---- how the code adds the words of a line one after the other
 
 -- bytes added where writing stands: measured alone, or written as far as there was room
 pub record Adds (write : Bool) (d : List ℕ) (p : Place) (bs : List ℕ) (answer : Place) (after : List ℕ) : Type 0 where

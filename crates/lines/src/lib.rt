@@ -1,4 +1,5 @@
-// The lines that programs print, written into a lent buffer from a place on: those of a listing, of a check and of a lowering.
+// The lines that programs print, written into a lent buffer where writing stands: those of a listing, of a check and of a lowering.
+// With `write` false a line is measured alone.
 mod drawn;
 mod rail;
 mod words;
@@ -23,82 +24,89 @@ pub enum Place {
 }
 
 // Writes the first line of a listing, which tells what a reading gave; where it has no room, the buffer stays as it was.
-pub fn first_line(reading: Reading, buf: &mut [u8], at: usize) -> Place
-    ensures { λ r. ⌜ Prints (firstLine reading) (now (buf .entry)) at r (now (buf .exit)) ⌝ }
+pub fn first_line(reading: Reading, buf: &mut [u8], write: bool, p: Place) -> Place
+    ensures { λ r. ⌜ Prints write (now (buf .entry)) p (firstLine reading) r (now (buf .exit)) ⌝ }
 {
-    let m = words::reading_line(reading, buf, false, Place::At(at));
+    let m = words::reading_line(reading, buf, false, p);
     let Place::At(_) = m else {
         return m;
     };
-    words::reading_line(reading, buf, true, Place::At(at))
+    words::reading_line(reading, buf, write, p)
 }
 
 // Writes the line of record i of a list over a text; where it has no room, the buffer stays as it was.
-pub fn record_line(text: &[u8], records: &[u8], i: usize, buf: &mut [u8], at: usize) -> Place
-    ensures { λ r. ⌜ Prints (lineOf (entryOf (now (text .entry)) (decodeAt (now (records .entry)) i))) (now (buf .entry)) at r (now (buf .exit)) ⌝ }
+pub fn record_line(
+    text: &[u8],
+    records: &[u8],
+    i: usize,
+    buf: &mut [u8],
+    write: bool,
+    p: Place,
+) -> Place
+    ensures { λ r. ⌜ Prints write (now (buf .entry)) p (lineOf (entryOf (now (text .entry)) (decodeAt (now (records .entry)) i))) r (now (buf .exit)) ⌝ }
 {
     let e = record::decode::decode_record(records, i);
-    let m = words::line(text, e, buf, false, Place::At(at));
+    let m = words::line(text, e, buf, false, p);
     let Place::At(_) = m else {
         return m;
     };
-    words::line(text, e, buf, true, Place::At(at))
+    words::line(text, e, buf, write, p)
 }
 
 // Writes the line of what the check told; where it has no room, the buffer stays as it was.
-pub fn checked_line(checked: Checked, buf: &mut [u8], at: usize) -> Place
-    ensures { λ r. ⌜ Prints (checkedLine checked) (now (buf .entry)) at r (now (buf .exit)) ⌝ }
+pub fn checked_line(checked: Checked, buf: &mut [u8], write: bool, p: Place) -> Place
+    ensures { λ r. ⌜ Prints write (now (buf .entry)) p (checkedLine checked) r (now (buf .exit)) ⌝ }
 {
-    let m = drawn::checked(checked, buf, false, Place::At(at));
+    let m = drawn::checked(checked, buf, false, p);
     let Place::At(_) = m else {
         return m;
     };
-    drawn::checked(checked, buf, true, Place::At(at))
+    drawn::checked(checked, buf, write, p)
 }
 
 // Writes the line of what lowering told; where it has no room, the buffer stays as it was.
-pub fn lowered_line(lowered: Lowered, buf: &mut [u8], at: usize) -> Place
-    ensures { λ r. ⌜ Prints (loweredLine lowered) (now (buf .entry)) at r (now (buf .exit)) ⌝ }
+pub fn lowered_line(lowered: Lowered, buf: &mut [u8], write: bool, p: Place) -> Place
+    ensures { λ r. ⌜ Prints write (now (buf .entry)) p (loweredLine lowered) r (now (buf .exit)) ⌝ }
 {
-    let m = drawn::lowered(lowered, buf, false, Place::At(at));
+    let m = drawn::lowered(lowered, buf, false, p);
     let Place::At(_) = m else {
         return m;
     };
-    drawn::lowered(lowered, buf, true, Place::At(at))
+    drawn::lowered(lowered, buf, write, p)
 }
 
 // Writes the line of a slot; where it has no room, the buffer stays as it was.
-pub fn slot_line(id: u32, value: f64, buf: &mut [u8], at: usize) -> Place
-    ensures { λ r. ⌜ Prints (slotLine id value) (now (buf .entry)) at r (now (buf .exit)) ⌝ }
+pub fn slot_line(id: u32, value: f64, buf: &mut [u8], write: bool, p: Place) -> Place
+    ensures { λ r. ⌜ Prints write (now (buf .entry)) p (slotLine id value) r (now (buf .exit)) ⌝ }
 {
-    let m = drawn::slot(id, value, buf, false, Place::At(at));
+    let m = drawn::slot(id, value, buf, false, p);
     let Place::At(_) = m else {
         return m;
     };
-    drawn::slot(id, value, buf, true, Place::At(at))
+    drawn::slot(id, value, buf, write, p)
 }
 
 // Writes the line of a row from its bytes; where it has no room, the buffer stays as it was.
-fn line_of(b: &[u8], buf: &mut [u8], at: usize) -> Place
+fn line_of(b: &[u8], buf: &mut [u8], write: bool, p: Place) -> Place
     requires { ⌜ length (now b) ≡ rowBytes ⌝ }
-    ensures { λ r. ⌜ Prints (rowLine (decodeRow (now (b .entry)))) (now (buf .entry)) at r (now (buf .exit)) ⌝ }
+    ensures { λ r. ⌜ Prints write (now (buf .entry)) p (rowLine (decodeRow (now (b .entry)))) r (now (buf .exit)) ⌝ }
 {
-    let m = drawn::row(b, buf, false, Place::At(at));
+    let m = drawn::row(b, buf, false, p);
     let Place::At(_) = m else {
         return m;
     };
-    drawn::row(b, buf, true, Place::At(at))
+    drawn::row(b, buf, write, p)
 }
 
 // Writes the line of row k of a list, and of a row of zeros past the last; where it has no room, the buffer stays as it was.
-pub fn row_line(rows: &[u8], k: usize, buf: &mut [u8], at: usize) -> Place
-    ensures { λ r. ⌜ Prints (rowLine (decodeRow (rowOf (now (rows .entry)) k))) (now (buf .entry)) at r (now (buf .exit)) ⌝ }
+pub fn row_line(rows: &[u8], k: usize, buf: &mut [u8], write: bool, p: Place) -> Place
+    ensures { λ r. ⌜ Prints write (now (buf .entry)) p (rowLine (decodeRow (rowOf (now (rows .entry)) k))) r (now (buf .exit)) ⌝ }
 {
     if rows.len() / ROW <= k {
         let none = [0u8; ROW];
-        return line_of(&none, buf, at);
+        return line_of(&none, buf, write, p);
     }
     let start = k * ROW;
     let end = start + ROW;
-    line_of(&rows[start..end], buf, at)
+    line_of(&rows[start..end], buf, write, p)
 }

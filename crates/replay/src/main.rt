@@ -1,9 +1,10 @@
 // Answers a batch on standard input: for each block what is asked of its text, and a line `.`; a batch that breaks the form ends
 // with the line `bad batch`.
+use answers::Way;
 use batch::Header;
 use libc::STDIN_FILENO;
 use libc::STDOUT_FILENO;
-use show::Way;
+use lines::Place;
 ghost use Prim.Native.Nat.{_≤_};
 ghost use lib.ListN.{length};
 
@@ -11,6 +12,9 @@ ghost use lib.ListN.{length};
 const LONGEST: usize = 64;
 
 const BLOCKS: u64 = 0xffff_ffff_ffff_ffff;
+
+// Room for any answer: a byte of the page stands in it at most twice, and a record has less than 100 bytes besides.
+const ROOM: usize = 262_144;
 
 // What was read of a header line.
 enum Got {
@@ -79,8 +83,18 @@ fn line_ends() -> bool {
     b == b'\n'
 }
 
+// Prints what is asked of a text, by way of room for it, and a line `.`; tells whether to go on.
+fn put(text: &[u8], way: Way, out: &mut [u8]) -> bool {
+    let Place::At(end) = answers::answer(text, way, out) else {
+        io::write_all(STDOUT_FILENO, b"answer too long\n");
+        return false;
+    };
+    io::write_all(STDOUT_FILENO, &out[..end]);
+    io::write_all(STDOUT_FILENO, b".\n")
+}
+
 // Answers a text of n bytes, which follows on the input with a new line; tells whether to go on.
-fn answer(text: &mut [u8], n: usize, way: Way) -> bool {
+fn answer(text: &mut [u8], n: usize, way: Way, out: &mut [u8]) -> bool {
     if text.len() < n {
         return bad();
     }
@@ -90,29 +104,28 @@ fn answer(text: &mut [u8], n: usize, way: Way) -> bool {
     if !line_ends() {
         return bad();
     }
-    show::show(&text[..n], way);
-    io::write_all(STDOUT_FILENO, b".\n")
+    put(&text[..n], way, out)
 }
 
 // Answers a block by its header.
-fn by_header(h: Header, text: &mut [u8]) -> bool {
+fn by_header(h: Header, text: &mut [u8], out: &mut [u8]) -> bool {
     match h {
-        Header::Case(n) => answer(text, n, Way::Plain),
-        Header::List(n) => answer(text, n, Way::Whole),
-        Header::Check(n) => answer(text, n, Way::Check),
-        Header::Rows(n) => answer(text, n, Way::Rows),
+        Header::Case(n) => answer(text, n, Way::Plain, out),
+        Header::List(n) => answer(text, n, Way::Whole, out),
+        Header::Check(n) => answer(text, n, Way::Check, out),
+        Header::Rows(n) => answer(text, n, Way::Rows, out),
         Header::Bad => bad(),
     }
 }
 
-// Answers the next block, by way of room for its text and for its header line; tells whether to go on.
-fn block(text: &mut [u8], line: &mut [u8]) -> bool {
+// Answers the next block, by way of room for its text, for its header line and for its answer; tells whether to go on.
+fn block(text: &mut [u8], line: &mut [u8], out: &mut [u8]) -> bool {
     match read_line(line) {
         Got::Line(n) => {
             if line.len() < n {
                 return bad();
             }
-            by_header(batch::read_header(&line[..n]), text)
+            by_header(batch::read_header(&line[..n]), text, out)
         }
         Got::End => false,
         Got::Broken => bad(),
@@ -124,9 +137,11 @@ fn main() {
     let text: &mut [u8] = &mut space;
     let mut head = [0u8; LONGEST];
     let line: &mut [u8] = &mut head;
+    let mut answered = [0u8; ROOM];
+    let out: &mut [u8] = &mut answered;
     let mut left = BLOCKS;
     while 0 < left {
-        if !block(text, line) {
+        if !block(text, line, out) {
             return;
         }
         left -= 1;

@@ -33,7 +33,7 @@ fn put(words: &[u8]) {
 
 // Prints what lowering told, by way of a buffer.
 fn put_lowered(r: Lowered, out: &mut [u8]) {
-    let Place::At(n) = lines::lowered_line(r, out, 0) else {
+    let Place::At(n) = lines::lowered_line(r, out, true, Place::At(0)) else {
         return;
     };
     if out.len() < n {

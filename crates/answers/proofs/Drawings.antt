@@ -1,0 +1,215 @@
+-- What is told of a lowering with room enough is what is due of the page's drawing: slot by slot and row by row, from what was written. Assumes nothing.
+use mathlib.Core.Path.{_≡_, refl, sym, ap, _∙_}
+use mathlib.Core.List.{List, [], map, append-nil}
+use Prim.Native.Nat.{ℕ, _+_, _*_, _/_, _^_, _≤_, _<_}
+use native.Mathlib.Decide.{decLt}
+use native.Mathlib.Omega.{arith}
+use lib.ListN.{length, getD, take, drop, replicate, length-map, length-take, length-replicate, List·getD-eq-default}
+use lib.Ieee.{Float, nan, binary64, ofBits}
+use lib.Seq.{take-at}
+use Rattle.refusal.specs.First.{Answer, passed, refused}
+use Rattle.layout.specs.declared.Layout.{Layout}
+use Rattle.layout.specs.Push.{onward}
+use Rattle.layout.proofs.Onward.{length-onward, getD-onward}
+use Rattle.record.specs.Decode.{noRecord}
+use Rattle.record.specs.Entry.{Entry, noEntry, entryAt, upTo, entryOf}
+use Rattle.record.specs.Formed.{entries}
+use Rattle.reader.specs.Page.{recordsIn, linesOf}
+use Rattle.reader.proofs.Written.{written-fits}
+use Rattle.index.specs.Labels.{kindNo}
+use Rattle.drawing.specs.Faults.{Fault, numberOf}
+use Rattle.drawing.specs.Check.{checkOf}
+use Rattle.lowering.specs.declared.Lowered.{Lowered}
+use Rattle.lowering.specs.declared.Lowered.the-variants as L
+use Rattle.lowering.specs.Slots.{slots, layoutOf, valuesOf}
+use Rattle.lowering.specs.Rows.{Row, rowFor, rulesOf, rowsOf, rowBytes, encodeRow, encodeRows}
+use Rattle.lowering.specs.Lower.{Room, roomIn, lowerOf, Lowers}
+use Rattle.lowering.specs.Demand.{Enough}
+use Rattle.lowering.proofs.Bytes.{length-row, ids-given, count-rows}
+use Rattle.lowering.proofs.Counts.{says-within, rules-pick}
+use Rattle.lowering.proofs.Fine.{Fine, fine}
+use Rattle.lowering.proofs.Lacking.{lower-good, lower-refused}
+use Rattle.lowering.proofs.Lists.{Each, each-map, each-at, length-flat, piece-at, getD-map, map-each, picks-each}
+use Rattle.lowering.proofs.Rows.{ids-few}
+use Rattle.lowering.proofs.Values.{length-values}
+use Rattle.lines.specs.Drawn.{loweredLine, slotLine, decodeRow, rowOf, rowLine}
+use Rattle.lines.proofs.RowBack.{RowFits, row-printed}
+use Rattle.answers.specs.Answers.{slotLines, drawingLines}
+use Rattle.answers.specs.Steps.{Read, slotsBy, loweredBy}
+use Rattle.answers.proofs.Joined.{up-to-same, up-to-map}
+use Rattle.answers.proofs.Room.{slots-most, rules-most, enough}
+
+-- ---- rows
+
+-- what stands past the last row
+abbrev noRow : Row
+noRow = record { kind = 0; third = 0; ids = []; bits = 0 }
+
+-- the lines of rows that fit their bytes, from those bytes
+module _ (rs : List Row) (fit : Each RowFits rs) where
+  sizes : Each (λ (r : Row). length (encodeRow r) ≡ rowBytes) rs
+  sizes = each-map RowFits (λ (r : Row). length (encodeRow r) ≡ rowBytes) (λ r h. length-row r (h .few)) rs fit
+
+  pub rows-length : length (encodeRows rs) ≡ length rs * rowBytes
+  rows-length = length-flat encodeRow rowBytes rs sizes
+
+  rows-count : length (encodeRows rs) / rowBytes ≡ length rs
+  rows-count = omega (arith, rows-length)
+
+  row-shown : (k : ℕ) → k < length rs → rowLine (decodeRow (rowOf (encodeRows rs) k)) ≡ rowLine (getD rs k noRow)
+  row-shown k h =
+      row-printed (getD rs k noRow) (each-at RowFits rs noRow fit k h) (encodeRows rs) k (omega (arith, h, rows-count))
+      (rw append-nil at (piece-at encodeRow rowBytes rs [] noRow sizes k h))
+
+  pub rows-shown : upTo (length (encodeRows rs) / rowBytes) (λ k. rowLine (decodeRow (rowOf (encodeRows rs) k))) ≡ map rowLine rs
+  rows-shown = rw rows-count (up-to-same (length rs) (λ k. rowLine (decodeRow (rowOf (encodeRows rs) k))) (λ k. rowLine (getD rs k noRow)) row-shown ∙ up-to-map rs noRow rowLine)
+
+-- the rows of a page's drawing fit their bytes
+module _ (s : List ℕ) (short : length s ≤ 32768) (w : Fine (linesOf s)) (left : length (slots (linesOf s)) ≤ 10800) where
+  bits-fit : (i : ℕ) → i < length (linesOf s) → entryAt (linesOf s) i .x < 2 ^ 64
+  unfolding entryOf
+  bits-fit i h =
+      let b : i < length (recordsIn s) = omega (arith, h, length-map (recordsIn s) (entryOf s)) in
+      rw (getD-map (entryOf s) (recordsIn s) i noRecord noEntry b) (written-fits s short noRecord i b .x-fits)
+
+  id-fits : (e : Entry) (q : ℕ) → getD (rowFor (linesOf s) 0 e .ids) q 0 < 2 ^ 32
+  id-fits e q =
+      let ids = rowFor (linesOf s) 0 e .ids in
+      elim (decLt q (length ids)) [
+        | yes b ↦ omega (arith, each-at _ ids 0 (ids-given (linesOf s) 0 e (omega (arith, left))) q b)
+        | no f ↦ omega (arith, List·getD-eq-default ids 0 {n = q} (omega (arith, f)))
+      ]
+
+  pub rows-fit : Each RowFits (rowsOf (linesOf s) 0)
+  unfolding rowsOf
+  rows-fit =
+      map-each (rowFor (linesOf s) 0) RowFits (rulesOf (linesOf s))
+      (picks-each _ _ _ rules-pick (λ (e : Entry). RowFits (rowFor (linesOf s) 0 e)) (linesOf s) noEntry
+      (λ j g t.
+      record {
+        few = ids-few (linesOf s) w 0 j g (says-within 4 23 (kindNo (linesOf s) j) .so t);
+        ids-fit = λ q b. id-fits (entryAt (linesOf s) j) q;
+        bits-fit = bits-fit j g;
+      }))
+
+-- ---- slots
+
+slots-shown : (es : List Entry)
+    → upTo (length (onward 0 (length (slots es)))) (λ j. slotLine (getD (onward 0 (length (slots es))) j 0) (getD (valuesOf es) j nan)) ≡ slotLines es
+slots-shown es =
+    let n = length (slots es) in
+    rw (length-onward 0 n)
+    (up-to-same n (λ j. slotLine (getD (onward 0 n) j 0) (getD (valuesOf es) j nan)) (λ j. slotLine j (getD (valuesOf es) j nan))
+    (λ j h. ap (λ (id : ℕ). slotLine id (getD (valuesOf es) j nan)) (getD-onward 0 n j h ∙ omega arith)))
+
+-- ---- a call of lowering, with all that is lent
+
+abbrev ids₀ : List ℕ
+ids₀ = replicate 10800 0
+
+abbrev values₀ : List Float
+values₀ = replicate 10800 (ofBits binary64 0)
+
+abbrev rows₀ : List ℕ
+rows₀ = replicate 79200 0
+
+abbrev lent : Room
+lent = roomIn 0 ids₀ values₀ rows₀
+
+-- as many as are taken are there
+pub there : {A : Type 0} (n : ℕ) (l : List A) → length (take n l) ≡ n → n ≤ length l
+there n l e = omega (arith, e, length-take n l)
+
+module _ {s bs : List ℕ} (read : Read s bs) {told : Lowered} {ids : List ℕ} {values : List Float} {rows : List ℕ} (call : Lowers (entries s bs) 0 ids₀ values₀ rows₀ told ids values rows) where
+  few : length (linesOf s) ≤ 1800
+  few = omega (arith, read .few, length-map (recordsIn s) (entryOf s))
+
+  suffices : Enough (linesOf s) lent
+  suffices =
+      enough (linesOf s) few lent refl (omega (arith, length-replicate {0} {A = ℕ} 10800 0)) (omega (arith, length-replicate {0} {A = Float} 10800 (ofBits binary64 0)))
+      (omega (arith, length-replicate {0} {A = ℕ} 79200 0))
+
+  on-lines : Lowers (linesOf s) 0 ids₀ values₀ rows₀ told ids values rows
+  on-lines = rw (read .entries-are) at call
+
+  -- a refusal is the check's
+  pub refused-lines : {number place : ℕ} → told ≡ L.Refused number place → drawingLines (checkOf (linesOf s)) (linesOf s) ≡ loweredLine told
+  unfolding loweredLine
+  refused-lines {number} {place} e = go (checkOf (linesOf s)) refl
+    where
+      go : (a : Answer Fault) → checkOf (linesOf s) ≡ a → drawingLines a (linesOf s) ≡ loweredLine told
+      go passed h =
+          let g : told ≡ L.Good (layoutOf (linesOf s)) (0 + length (slots (linesOf s))) (length (rulesOf (linesOf s))) = on-lines .answer ∙ lower-good (linesOf s) lent suffices h in
+          let z : _≡_ {A = ℕ} 0 1 = cc in
+          absurd (omega arith)
+      go (refused f i) h = rw (on-lines .answer ∙ lower-refused (linesOf s) lent f i h)
+
+  module _ {l : Layout} {next count : ℕ} (e : told ≡ L.Good l next count) where
+    passes : checkOf (linesOf s) ≡ passed
+    passes = go (checkOf (linesOf s)) refl
+      where
+        go : (a : Answer Fault) → checkOf (linesOf s) ≡ a → a ≡ passed
+        go passed h = refl
+        go (refused f i) h =
+            let g : told ≡ L.Refused (numberOf f) i = on-lines .answer ∙ lower-refused (linesOf s) lent f i h in
+            let z : _≡_ {A = ℕ} 0 1 = cc in
+            absurd (omega arith)
+
+    good-is : lowerOf (linesOf s) lent ≡ L.Good (layoutOf (linesOf s)) (0 + length (slots (linesOf s))) (length (rulesOf (linesOf s)))
+    good-is = lower-good (linesOf s) lent suffices passes
+
+    told-is : told ≡ L.Good (layoutOf (linesOf s)) (length (slots (linesOf s))) (length (rulesOf (linesOf s)))
+    told-is =
+        let n : 0 + length (slots (linesOf s)) ≡ length (slots (linesOf s)) = omega arith in
+        on-lines .answer ∙ good-is ∙ rw n
+
+    next-is : next ≡ length (slots (linesOf s))
+    next-is = cc (told-is, e)
+
+    count-is : count ≡ length (rulesOf (linesOf s))
+    count-is = cc (told-is, e)
+
+    pub count-most : count ≤ 1800
+    count-most = omega (arith, count-is, rules-most (linesOf s) few)
+
+    fits : Each RowFits (rowsOf (linesOf s) 0)
+    fits = rows-fit s (read .short) (fine (linesOf s) passes) (slots-most (linesOf s) few)
+
+    written-length : length (encodeRows (rowsOf (linesOf s) 0)) ≡ count * rowBytes
+    written-length = omega (arith, rows-length (rowsOf (linesOf s) 0) fits, count-rows (linesOf s) (fine (linesOf s) passes) 0, count-is)
+
+    -- what was written
+    ids-taken : take next ids ≡ onward 0 (length (slots (linesOf s)))
+    ids-taken =
+        let n = length (slots (linesOf s)) in
+        rw (on-lines .ids-are, good-is, next-is) (take-at (onward 0 n) (drop (length (onward 0 n)) ids₀) n (length-onward 0 n))
+
+    values-taken : take next values ≡ valuesOf (linesOf s)
+    values-taken =
+        rw (on-lines .values-are, good-is, next-is)
+        (take-at (valuesOf (linesOf s)) (drop (length (valuesOf (linesOf s))) values₀) (length (slots (linesOf s))) (length-values (linesOf s)))
+
+    rows-taken : take (count * rowBytes) rows ≡ encodeRows (rowsOf (linesOf s) 0)
+    rows-taken =
+        let written = encodeRows (rowsOf (linesOf s) 0) in
+        rw (on-lines .rows-are, good-is) (take-at written (drop (length written) rows₀) (count * rowBytes) written-length)
+
+    -- is all there
+    pub ids-size : length (take next ids) ≡ next
+    ids-size = ap length ids-taken ∙ length-onward 0 (length (slots (linesOf s))) ∙ sym next-is
+
+    pub values-size : length (take next values) ≡ next
+    values-size = ap length values-taken ∙ length-values (linesOf s) ∙ sym next-is
+
+    pub rows-size : length (take (count * rowBytes) rows) ≡ count * rowBytes
+    rows-size = ap length rows-taken ∙ written-length
+
+    lines-are : loweredBy told (onward 0 (length (slots (linesOf s)))) (valuesOf (linesOf s)) (encodeRows (rowsOf (linesOf s) 0)) ≡ drawingLines passed (linesOf s)
+    unfolding loweredBy slotsBy
+    lines-are = rw (slots-shown (linesOf s), rows-shown (rowsOf (linesOf s) 0) fits, told-is)
+
+    -- and its lines are those that are due
+    pub good-lines : drawingLines (checkOf (linesOf s)) (linesOf s) ≡ loweredBy (L.Good l next count) (take next ids) (take next values) (take (count * rowBytes) rows)
+    good-lines =
+        rw (passes, ids-taken, values-taken, rows-taken)
+        (sym lines-are ∙ ap (λ (z : Lowered). loweredBy z (onward 0 (length (slots (linesOf s)))) (valuesOf (linesOf s)) (encodeRows (rowsOf (linesOf s) 0))) e)

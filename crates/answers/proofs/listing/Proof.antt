@@ -1,0 +1,12 @@
+-- `answers::listing` meets its contract: it is the answer to one way of asking. Assumes nothing.
+use borrow.Author.Needs.{needs}
+use Rattle.answers.specs.Answers.{answerOf}
+use Rattle.answers.proofs.listing.Statement.{statement}
+use Rattle.answers.proofs.listing.Tie as tie
+
+returns : tie.Need-returns
+unfolding answerOf
+returns c = c .before .before .answer .ensures
+
+pub listing-spec : {M : Type 1} → statement M
+listing-spec = tie.close (tie.spec (λ c κs. search needs) (λ c. search needs) returns)
