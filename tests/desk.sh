@@ -1,6 +1,7 @@
 #!/bin/sh
 # Holds ./desk against answers, words and exit statuses that are written here by hand: each command on the pages of drawings/, and
-# small bad pages for each refusal; and against the tour of README.md. It takes seconds once the programs are built. The exit status is 1 where anything differs.
+# small bad pages for each refusal; and against the tour of README.md. It runs what rt ci or rt check has built, in seconds, and proves
+# nothing: where a program is missing or older than its crates, that is a difference. The exit status is 1 where anything differs.
 set -u
 cd "$(dirname "$0")/.." || exit 2
 
@@ -8,6 +9,12 @@ room=$(mktemp -d) || exit 2
 trap 'rm -rf "$room"' EXIT
 tried=0
 failed=0
+
+# An rt that tells where the kit is, and no more.
+mkdir "$room/bin"
+printf '#!/bin/sh\n[ "$1" = doc ] && exec %s doc\nexit 1\n' "$(command -v rt)" >"$room/bin/rt"
+chmod +x "$room/bin/rt"
+PATH=$room/bin:$PATH
 
 same() { # WHAT FOUND DUE
     [ "$2" = "$3" ] && return
@@ -37,6 +44,14 @@ page() { # INSTRUCTIONS GUESSES
     text "# constraints\n$1\n\n# guesses\n$2\n"
 }
 
+# All that a command prints of the page.
+whole() { # COMMAND LINES..
+    command=$1
+    shift
+    tried=$((tried + 1))
+    same "desk $command, all that is printed" "$(./desk "$command" <"$room/page" 2>&1)" "$(printf '%s\n' "$@")"
+}
+
 # The page is refused.
 refused() { # COMMAND ANSWER SAID
     told 1 "refused $2" "<stdin>:$3" "$1"
@@ -60,9 +75,32 @@ done
 told 0 'instructions 15 guesses 6 end 372' '' read drawings/torn.txt
 
 # The plate's rows, worked out by hand, and the whole of what is said of a page.
-./desk rows drawings/plate.txt | cmp -s - crates/rows/stdout || same "the plate's rows" differ equal
+./desk rows drawings/plate.txt | cmp -s - tests/plate.rows || same "the plate's rows" differ equal
 ./desk check drawings/torn.txt 2>&1 >"$room/out" | sed 1d >"$room/said"
 printf 'corner.center roughly (10,\n^\n' | cmp -s - "$room/said" || same "the torn page's line and mark" differ equal
+
+# ---- document 01's page, and the same with text left over
+
+page 'point p\np.x = 0\ncircle c\nradius(c, 2)' 'p roughly (1, 2)\nc.center roughly (0, 0.5)\nc.radius roughly 1'
+whole list 'instructions 4 guesses 3 end 125' '1 p' '4 p x 0000000000000000' '2 c' '15 c 4000000000000000' '24 p 3ff0000000000000 4000000000000000' \
+    '24 c.center 0000000000000000 3fe0000000000000' '25 c.radius 3ff0000000000000'
+whole check 'passed points 1 circles 1 arcs 0 rows 2'
+whole rows 'lowered points 1 circles 1 arcs 0 next 5' 'slot 0 3ff0000000000000' 'slot 1 4000000000000000' 'slot 2 0000000000000000' \
+    'slot 3 3fe0000000000000' 'slot 4 3ff0000000000000' 'row 4 0 x 0000000000000000' 'row 15 2 3 4 4000000000000000'
+printf 'c.radius rough 1\n' >>"$room/page"
+for command in list check rows; do
+    refused $command '10 125' '11:1: text is left over: this is no guess (10)'
+done
+whole read 'instructions 4 guesses 3 end 125' '1 p' '4 p x 0000000000000000' '2 c' '15 c 4000000000000000' '24 p 3ff0000000000000 4000000000000000' \
+    '24 c.center 0000000000000000 3fe0000000000000' '25 c.radius 3ff0000000000000'
+text '# constraints\npoint p\n\n# guesses\np roughly (0, 1)\nq'
+for word in LIST CHECK ROWS CASE; do
+    printf '%s 51\n' "$word"
+    cat "$room/page"
+    echo
+done >"$room/batch"
+mv "$room/batch" "$room/page"
+whole replay 'refused 10 50' . 'refused 10 50' . 'refused 10 50' . 'instructions 1 guesses 1 end 50' '1 p' '24 p 0000000000000000 3ff0000000000000' .
 
 # ---- use
 
