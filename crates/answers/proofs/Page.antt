@@ -1,4 +1,4 @@
--- Document 01's page and its listing, from the page's bytes, by computation. Assumes nothing.
+-- docs/FORMAT.md's page and its listing, from the page's bytes, by computation. Assumes nothing.
 use mathlib.Core.Path.{_≡_, refl}
 use mathlib.Core.Bool.{true}
 use mathlib.Core.List.{List, [], _∷_}

@@ -1,4 +1,4 @@
--- The twelve marked cases of document 01: each is worked out from the definitions that the reader's promise cites. Assumes nothing.
+-- The twelve marked cases of docs/FORMAT.md: each is worked out from the definitions that the reader's promise cites. Assumes nothing.
 use mathlib.Core.Path.{_≡_, refl}
 use mathlib.Core.List.{map}
 use lib.Ieee.{toBits, round, size}

@@ -1,4 +1,4 @@
--- The twelve marked cases of document 01, (a) to (l), in one table: a text, what the whole reading tells of it, and the lines that are read.
+-- The twelve marked cases of docs/FORMAT.md, (a) to (l), in one table: a text, what the whole reading tells of it, and the lines that are read.
 use mathlib.Core.Bool.{true}
 use mathlib.Core.List.{List, [], _∷_, _++_, map}
 use Prim.Native.Nat.{ℕ}

@@ -30,7 +30,7 @@ two kind a b = entry kind 0 (bytes a ∷ bytes b ∷ [])
 abbrev fix : ℕ → String → Entry
 fix kind l = entry kind 1 (bytes l ∷ [])
 
--- the page of document 01 without its last line, and whole
+-- the page of docs/FORMAT.md without its last line, and whole
 abbrev start : List Entry
 start = one 1 "p" ∷ fix 4 "p" ∷ one 2 "c" ∷ one 15 "c" ∷ one 24 "p" ∷ one 24 "c.center" ∷ []
 

@@ -1,4 +1,4 @@
--- What is told of a drawing, in document 01's words: the numbers of the faults are apart, so the answer tells which fault the check found. Assumes nothing.
+-- What is told of a drawing, in docs/FORMAT.md's words: the numbers of the faults are apart, so the answer tells which fault the check found. Assumes nothing.
 use mathlib.Core.Path.{_≡_, refl, sym, ap, _∙_}
 use mathlib.Core.Logic.{_↔_}
 use mathlib.Core.List.{List}

@@ -95,7 +95,7 @@ countBelow kinds low high (suc n) = countBelow kinds low high n + cond (within l
 abbrev pub countOf : List Entry → ℕ → ℕ → ℕ
 countOf es low high = countBelow (kindNo es) low high (length es)
 
--- a drawing that passes has so many points, circles, arcs and rows; any other is refused with document 01's number, at a place
+-- a drawing that passes has so many points, circles, arcs and rows; any other is refused with docs/FORMAT.md's number, at a place
 abbrev pub answer : List Entry → Answer Fault → Checked
 answer es passed = checked.Passed (countOf es 1 1) (countOf es 2 2) (countOf es 3 3) (countOf es 4 23)
 answer es (refused f i) = checked.Refused (numberOf f) i

@@ -1,4 +1,4 @@
--- What is wrong with a drawing: document 01's faults 31 to 35 in its words, over the entries of the records, behind 30.
+-- What is wrong with a drawing: docs/FORMAT.md's faults 31 to 35 in its words, over the entries of the records, behind 30.
 use mathlib.Core.Path.{_≡_}
 use mathlib.Core.Logic.{_⊎_}
 use mathlib.Core.List.{List, [], _∷_, _++_}
@@ -86,7 +86,7 @@ faultAt f = getD behind30 f malformed
 abbrev pub order : List Fault
 order = malformed ∷ behind30
 
--- document 01's number of a fault
+-- docs/FORMAT.md's number of a fault
 abbrev pub numberOf : Fault → ℕ
 numberOf malformed = 30
 numberOf declared-twice = 31

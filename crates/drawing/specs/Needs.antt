@@ -1,4 +1,4 @@
--- Shapes, their parts, and what a label's place needs (document 01, "Check"): the code in the table of kinds, spelled out.
+-- Shapes, their parts, and what a label's place needs (docs/FORMAT.md, "Check"): the code in the table of kinds, spelled out.
 use mathlib.Core.Bool.{cond}
 use mathlib.Core.List.{List, [], _∷_, _++_}
 use Prim.Native.Nat.{ℕ}

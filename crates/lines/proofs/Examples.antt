@@ -1,4 +1,4 @@
--- Document 01's example of a listing, line by line, a line of each other form, and lines of a check and a lowering, by computation. Assumes nothing.
+-- docs/FORMAT.md's example of a listing, line by line, a line of each other form, and lines of a check and a lowering, by computation. Assumes nothing.
 use mathlib.Core.Path.{_≡_, refl}
 use mathlib.Core.List.{List, [], _∷_}
 use Prim.Native.Nat.{ℕ}

@@ -1,4 +1,4 @@
--- The lines of a listing (document 01, "A page read whole").
+-- The lines of a listing (docs/FORMAT.md, "A page read whole").
 use mathlib.Core.Bool.{cond}
 use mathlib.Core.List.{List, [], _∷_, _++_}
 use Prim.Native.Nat.{ℕ}

@@ -38,7 +38,7 @@ pub data Lack : Type 0 where
 abbrev pub lackOrder : List Lack
 lackOrder = few-ids ∷ short-slices ∷ short-rows ∷ []
 
--- document 01's number
+-- docs/FORMAT.md's number
 abbrev pub lackNumber : Lack → ℕ
 lackNumber few-ids = 36
 lackNumber short-slices = 37

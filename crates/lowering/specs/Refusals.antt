@@ -1,4 +1,4 @@
--- Every refusal of lowering in one order, 30 to 38 (document 01, "What comes back"): what is wrong with the drawing, then what is lacking.
+-- Every refusal of lowering in one order, 30 to 38 (docs/FORMAT.md, "What comes back"): what is wrong with the drawing, then what is lacking.
 use mathlib.Core.Path.{_≡_}
 use mathlib.Core.List.{List, _++_, map}
 use Prim.Native.Nat.{ℕ}
@@ -15,7 +15,7 @@ pub data Cause : Type 0 where
 abbrev pub causes : List Cause
 causes = map fault order ++ map lack lackOrder
 
--- document 01's number
+-- docs/FORMAT.md's number
 abbrev pub causeNumber : Cause → ℕ
 causeNumber (fault f) = numberOf f
 causeNumber (lack l) = lackNumber l

@@ -1,4 +1,4 @@
--- A row for each rule (document 01, "Lowering"): what a rule's labels name, the ids of those slots, and the row's 44 bytes.
+-- A row for each rule (docs/FORMAT.md, "Lowering"): what a rule's labels name, the ids of those slots, and the row's 44 bytes.
 use mathlib.Core.Path.{_≡_}
 use mathlib.Core.Bool.{Bool, _&&_, cond}
 use mathlib.Core.List.{List, [], _∷_, _++_, map}

@@ -1,4 +1,4 @@
--- The slots of a drawing (document 01, "Layout, check, lowering"): all points (x, y), then circles (center x, center y, radius), then arcs
+-- The slots of a drawing (docs/FORMAT.md, "Layout, check, lowering"): all points (x, y), then circles (center x, center y, radius), then arcs
 -- (a.x, a.y, b.x, b.y, center.x, center.y). Each slot goes by the name of its component, and starts at that component's guess.
 use mathlib.Core.Bool.{cond}
 use mathlib.Core.List.{List, [], _∷_, _++_, map}

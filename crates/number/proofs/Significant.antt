@@ -1,4 +1,4 @@
--- The limit on m in document 01's words: without its leading zeros m has at most n digits exactly if it is below 10^n. Assumes nothing.
+-- The limit on m in docs/FORMAT.md's words: without its leading zeros m has at most n digits exactly if it is below 10^n. Assumes nothing.
 use mathlib.Core.Path.{_≡_, refl}
 use mathlib.Core.Bool.{Bool, true, false, cond}
 use mathlib.Core.List.{List, [], _∷_, _++_}

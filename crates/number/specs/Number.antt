@@ -1,4 +1,4 @@
--- A number and an expression at a place of a text (document 01, "Number", "Not carried" and "Expression"). Assumes nothing.
+-- A number and an expression at a place of a text (docs/FORMAT.md, "Number", "Not carried" and "Expression"). Assumes nothing.
 use mathlib.Core.Path.{_≡_}
 use mathlib.Core.Bool.{Bool, true, false, cond, _||_, _&&_}
 use mathlib.Core.List.{List, [], _∷_, _++_}

@@ -1,4 +1,4 @@
--- The forms of a page's lines (document 01, "Instruction" and "Guess"; 000's parsers, in their order and under their names where they have one).
+-- The forms of a page's lines (docs/FORMAT.md, "Instruction" and "Guess"; the parsers of parser.rs, in their order and under their names where they have one).
 use mathlib.Core.Bool.{Bool, true, false, cond, not, _&&_}
 use mathlib.Core.List.{List, [], _∷_}
 use Prim.Native.Nat.{ℕ}
@@ -158,7 +158,7 @@ keywordOn s stand kind =
     false
     (byteOn s (gapOn s (n .then) (k .gap)) 41)
 
--- the keyword forms in 000's order
+-- the keyword forms in the order of parser.rs
 abbrev pub order : List ℕ
 order = 6 ∷ 11 ∷ 12 ∷ 13 ∷ 14 ∷ 5 ∷ 7 ∷ 8 ∷ 9 ∷ 10 ∷ 15 ∷ 16 ∷ 17 ∷ 23 ∷ 20 ∷ 21 ∷ 22 ∷ 19 ∷ []
 

@@ -1,4 +1,4 @@
--- A page (document 01, "Problem"; 000's `parse_problem`): its lines, its headings, what is told of it, and what a good reading writes.
+-- A page (docs/FORMAT.md, "Problem"; `parse_problem` of parser.rs): its lines, its headings, what is told of it, and what a good reading writes.
 use mathlib.Core.Path.{_≡_}
 use mathlib.Core.Bool.{Bool, true, false, cond, _&&_}
 use mathlib.Core.List.{List, [], _∷_, _++_, map}
@@ -124,7 +124,7 @@ problemOf s =
     let gs = linesOn true s guesses 7 in
     record { instructions = is .records; guesses = gs .records; then = wsOn s (optNewlineOn s (gs .then)) }
 
--- ---- what is told, in document 01's order
+-- ---- what is told, in docs/FORMAT.md's order
 
 -- the place of the first byte of 128 or more, or the text's end
 abbrev pub highAt : List ℕ → ℕ

@@ -1,4 +1,4 @@
--- The tests of a record say what document 01 says of it: each is put together along its statement. Assumes nothing.
+-- The tests of a record say what docs/FORMAT.md says of it: each is put together along its statement. Assumes nothing.
 use mathlib.Core.Path.{_≡_, refl, sym, ap, _∙_}
 use mathlib.Core.Bool.{Bool, true, false, not, _&&_, _||_}
 use mathlib.Core.List.{List, []}

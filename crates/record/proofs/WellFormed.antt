@@ -1,4 +1,4 @@
--- A list passes exactly if it is well formed in document 01's words: a list that is at fault nowhere has good records, and its
+-- A list passes exactly if it is well formed in docs/FORMAT.md's words: a list that is at fault nowhere has good records, and its
 -- lowest guess parts the instructions from the guesses. Assumes nothing.
 use mathlib.Core.Path.{_≡_, refl, sym, ap, _∙_, subst}
 use mathlib.Core.Logic.{_↔_, ⊎-elim}

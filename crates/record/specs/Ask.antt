@@ -1,4 +1,4 @@
--- What asking a record for a label or an angle gives back (document 01, "Record"). The record is judged by itself.
+-- What asking a record for a label or an angle gives back (docs/FORMAT.md, "Record"). The record is judged by itself.
 use mathlib.Core.Path.{_≡_}
 use mathlib.Core.Bool.{cond, _&&_}
 use mathlib.Core.List.{List, []}

@@ -1,4 +1,4 @@
--- A record back from its bytes, and which records come back whole (document 01, "Record").
+-- A record back from its bytes, and which records come back whole (docs/FORMAT.md, "Record").
 use mathlib.Core.Path.{_≡_}
 use mathlib.Core.Bool.{Bool, cond}
 use mathlib.Core.List.{List}

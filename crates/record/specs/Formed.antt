@@ -1,4 +1,4 @@
--- What a well formed list of records is, and where a list is not (document 01, refusal 30): its entries, in words, and as a test.
+-- What a well formed list of records is, and where a list is not (docs/FORMAT.md, "Well formed"): its entries, in words, and as a test.
 use mathlib.Core.Path.{_≡_}
 use mathlib.Core.Bool.{Bool, not, _&&_, _||_, cond}
 use mathlib.Core.List.{List, [], _∷_, _++_}
@@ -22,7 +22,7 @@ most = 1800
 abbrev pub malformed : ℕ
 malformed = 30
 
--- ---- a list that is well formed, as document 01 has it
+-- ---- a list that is well formed, as docs/FORMAT.md has it
 
 -- record i of a list is a guess
 abbrev pub GuessOf : List ℕ → ℕ → Type 0

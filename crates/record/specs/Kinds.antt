@@ -1,4 +1,4 @@
--- THE table of the 25 kinds, which reader, check and lowering all read (document 01, "Kinds", "Check" and 000's forms). Its places are
+-- THE table of the 25 kinds, which reader, check and lowering all read (docs/FORMAT.md, "Kinds", "Check" and "Instruction"). Its places are
 -- the kinds' numbers; row 0 is no kind.
 use mathlib.Core.Bool.{Bool, true, false, _&&_, cond}
 use mathlib.Core.List.{List, [], _∷_, _++_, map}

@@ -1,4 +1,4 @@
--- A record and its bytes (document 01, "Record").
+-- A record and its bytes (docs/FORMAT.md, "Record").
 use mathlib.Core.Bool.{cond}
 use mathlib.Core.List.{List, [], _∷_, _++_}
 use Prim.Native.Nat.{ℕ, _+_, _/_, _%_, _^_}

@@ -1,4 +1,4 @@
--- What a good record is, judged by itself (document 01, "Well formed"), in the document's words and then as tests.
+-- What a good record is, judged by itself (docs/FORMAT.md, "Well formed"), in the document's words and then as tests.
 use mathlib.Core.Path.{_≡_}
 use mathlib.Core.Logic.{_⊎_}
 use mathlib.Core.Bool.{Bool, true, false, not, _&&_, _||_, cond}

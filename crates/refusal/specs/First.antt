@@ -1,4 +1,4 @@
--- Faults in an order, each of which may hold at places from 0 on (document 01, "Order"): the first fault of the order that holds
+-- Faults in an order, each of which may hold at places from 0 on (docs/FORMAT.md, "Order"): the first fault of the order that holds
 -- anywhere is told, with the lowest place where it holds. In words, and as a test.
 use mathlib.Core.Bool.{Bool, true, false, _&&_, _||_, cond}
 use mathlib.Core.Option.{Option, none, some}

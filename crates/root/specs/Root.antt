@@ -1,4 +1,4 @@
--- The root, as document 01 has it, from bits to bits. A number is counted in units of 2^-1074 (`sizeOf`). Assumes nothing.
+-- The root, as docs/FORMAT.md has it, from bits to bits. A number is counted in units of 2^-1074 (`sizeOf`). Assumes nothing.
 use mathlib.Core.Path.{_≡_}
 use mathlib.Core.Logic.{_⊎_}
 use Prim.Native.Nat.{ℕ, _+_, _-_, _*_, _/_, _%_, _^_, _≤_, _<_}

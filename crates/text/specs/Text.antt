@@ -1,4 +1,4 @@
--- Where reading stands, and what is read at a place (document 01, module 2). A text is the list of its bytes, a place the
+-- Where reading stands, and what is read at a place (docs/FORMAT.md, "Label and spaces"). A text is the list of its bytes, a place the
 -- count of the bytes before it. Past the end stands nothing, so each reading has a meaning at every place.
 use Prim.Native.Nat.{ℕ, _+_, _-_}
 use mathlib.Core.Bool.{Bool, true, false, cond, _||_, _&&_}
