@@ -3,7 +3,7 @@ ghost use mathlib.Core.Path.{_≡_};
 ghost use mathlib.Core.Bool.{true, false};
 ghost use Prim.Native.Nat.{_≤_};
 ghost use lib.ListN.{length, take};
-ghost use Rattle.text.specs.Text.{wordOn};
+ghost use Rattle.text.specs.Text.{wsOn, wordOn, labelOn};
 ghost use Rattle.text.specs.declared.Stand.the-variants.{At, Nothing};
 ghost use Rattle.record.specs.Kinds.{table, wordOf};
 ghost use Rattle.reader.specs.Forms.{noLine, lineOf, labelled, aroundOn, eitherOn, componentOn, pairOn, declareOn, fixedOn, assignOn, moreOn, angleOn, plainPart, partOn, gapOn, keywordOn, order, firstOf, labelFormsOn, instructionOn, guessedOn, guessOn, assignedOn, behindOn, declarationOn, declared, noneBegins};
@@ -446,7 +446,15 @@ fn label_forms(text: &[u8], at: usize, kinds: &[[u8; 8]; 26]) -> Line
     assign_forms(text, at, l, kinds)
 }
 
-// The word of a declaration and its label; the space between them may be missing.
+// The label behind the word of a declaration; the space between them may be missing.
+fn label_behind(text: &[u8], word: Stand) -> Label
+    ensures { λ r. ⌜ r ≡ labelOn (now (text .entry)) (wsOn (now (text .entry)) word) ⌝ }
+{
+    let s = text::ws(text, word);
+    text::parse_label(text, s)
+}
+
+// The word of a declaration and its label.
 fn declare(text: &[u8], at: usize, kind: u8) -> Declared
     requires { ⌜ 2 ≤ length (wordOf kind) ⌝ }
     ensures { λ r. ⌜ declared r ≡ declareOn (now (text .entry)) (At at) kind ⌝ }
@@ -460,8 +468,7 @@ fn declare(text: &[u8], at: usize, kind: u8) -> Declared
         };
     }
     let s = keyword(text, Stand::At(at), kinds::word_of(kind));
-    let s = text::ws(text, s);
-    let l = text::parse_label(text, s);
+    let l = label_behind(text, s);
     let then = l.then;
     Declared {
         kind,

@@ -21,12 +21,8 @@ keyword-requires c κs = word-fits (wordOf (c .before .before .before .before .a
 returns-2 : tie.Need-returns-2
 unfolding declareOn
 returns-2 c =
-    rw (
-      ← word-begins (wordOf (c .before .before .before .before .before .before .before .args .kind)) (c .before .before .before .word-of .result) (c .before .before .before .word-of .ensures),
-      ← c .before .before .keyword .ensures,
-      ← c .before .ws .ensures,
-      ← c .parse-label .ensures,
-    )
+    let word = c .before .before .word-of in
+    rw (← word-begins (wordOf (c .before .before .before .before .before .before .args .kind)) (word .result) (word .ensures), ← c .before .keyword .ensures, ← c .label-behind .ensures)
 
 pub declare-spec : {M : Type 1} → statement M
-declare-spec = tie.close (tie.spec (λ c κs. search needs) returns (λ c κs. search needs) keyword-requires (λ c κs. search needs) (λ c κs. search needs) returns-2)
+declare-spec = tie.close (tie.spec (λ c κs. search needs) returns (λ c κs. search needs) keyword-requires (λ c κs. search needs) returns-2)
