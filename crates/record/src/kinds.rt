@@ -1,6 +1,6 @@
 // THE table of the 25 kinds, which reader, check and lowering all read, and the words of their forms beside it.
 ghost use mathlib.Core.Path.{_≡_};
-ghost use Rattle.record.specs.Kinds.{kindAt, cell, wordOf, inField, begins};
+ghost use Rattle.record.specs.Kinds.{cell, wordOf, inField, begins};
 
 // The columns of the table: how many labels a kind has, what each of the four label places needs, its third byte, the sort of its
 // number, and how its form is spelled.
