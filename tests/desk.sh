@@ -102,6 +102,16 @@ done >"$room/batch"
 mv "$room/batch" "$room/page"
 whole replay 'refused 10 50' . 'refused 10 50' . 'refused 10 50' . 'instructions 1 guesses 1 end 50' '1 p' '24 p 0000000000000000 3ff0000000000000' .
 
+# The longest answer that was found: 899 pairs of coordinates, one of them for a label of 25541 letters, which stands in two records.
+awk 'BEGIN {
+    print "# constraints"
+    for (i = 0; i < 25541; i++) printf "a"
+    for (i = 0; i < 899; i++) printf "%s=(0,0)\n", i ? "a" : ""
+    printf "\n# guesses\na roughly 0"
+}' >"$room/page"
+told 0 'instructions 1798 guesses 1 end 32768' '' list
+same 'desk list, bytes of the longest answer' "$(wc -c <"$room/out")" 92494
+
 # ---- use
 
 text ''
