@@ -104,6 +104,7 @@ slots-shown es =
 
 -- ---- a call of lowering, with all that is lent
 
+-- the slices and the buffer as they are lent, and the room that they have
 abbrev ids₀ : List ℕ
 ids₀ = replicate 10800 0
 

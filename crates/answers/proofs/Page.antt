@@ -31,6 +31,7 @@ page =
     ∷ "c.radius roughly 1"
     ∷ [])
 
+-- what is listed of it
 pub page-listed :
     listingOf true page
     ≡ quoted (

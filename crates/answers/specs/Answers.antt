@@ -40,6 +40,7 @@ listingOf whole s = answerTo (readingOf whole s recordRoom) (listed (readingOf w
 
 -- ---- the check
 
+-- what it tells of the page's drawing, by the whole reading
 unfoldable pub checkingOf : List ℕ → List ℕ
 checkingOf s = answerTo (readingOf true s recordRoom) (checkedLine (checkedOf (linesOf s)))
 
@@ -55,11 +56,13 @@ drawingLines (refused fault i) es = refusedLine (numberOf fault) i
 drawingLines passed es =
     loweredLine (lowered.Good (layoutOf es) (length (slots es)) (length (rulesOf es))) ++ joined (slotLines es) ++ joined (map rowLine (rowsOf es 0))
 
+-- all of them, by the whole reading
 unfoldable pub loweringOf : List ℕ → List ℕ
 loweringOf s = answerTo (readingOf true s recordRoom) (drawingLines (checkOf (linesOf s)) (linesOf s))
 
 -- ---- what is asked
 
+-- the answer to each way of asking
 unfoldable pub answerOf : Way → List ℕ → List ℕ
 answerOf Plain s = listingOf false s
 answerOf Whole s = listingOf true s
