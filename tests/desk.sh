@@ -234,6 +234,7 @@ while n=$((n + 1)) && [ -e "$room/tour$n" ]; do
     sh "$room/tour$n" >"$room/out" 2>&1
     cmp -s "$room/out" "$room/tour$n.due" || same "README.md: $(cat "$room/tour$n")" "$(cat "$room/out")" "$(cat "$room/tour$n.due")"
 done
+[ "$n" -gt 1 ] || same 'README.md, commands of its tour' none some
 
 printf '%d runs, %d differences\n' "$tried" "$failed"
 [ "$failed" -eq 0 ]
