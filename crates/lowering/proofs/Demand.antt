@@ -25,7 +25,7 @@ use Rattle.record.proofs.UpTo.{length-up-to}
 use Rattle.drawing.specs.Needs.{point, circle, arc}
 use Rattle.lowering.specs.declared.Lowered.{Lowered}
 use Rattle.lowering.specs.declared.Lowered.the-variants as L
-use Rattle.lowering.specs.Slots.{slots, howMany, valuesOf}
+use Rattle.lowering.specs.Slots.{slots, howMany, firstSlot, valuesOf}
 use Rattle.lowering.specs.Rows.{rulesOf, rowsOf, encodeRows}
 use Rattle.lowering.specs.Lower.{lowerOf, unless, onto, roomIn, Lowers}
 use Rattle.lowering.specs.Demand.{rulesBefore, CannotGoWrong, PassedLowersWell}
@@ -35,6 +35,7 @@ use Rattle.lowering.proofs.Fine.{Fine, fine, passed-with}
 use Rattle.lowering.proofs.Places.{one-component, slot-of}
 use Rattle.lowering.proofs.Values.{starts, length-values, value-at}
 use Rattle.lowering.proofs.Fields.{read-out}
+use Rattle.lowering.proofs.Looked.{looked-up}
 use Rattle.lowering.proofs.Bytes.{rule-inside, row-of}
 
 -- ---- the list of a drawing is short enough for a layout
@@ -72,6 +73,11 @@ module _ (es : List Entry) (w : Fine es) (few : length es ≤ layout.mostShapes)
   written-value : EachBelow (length (slots es)) (λ j. getD (onto values (valuesOf es)) j nan ≡ getD (valuesOf es) j nan)
   written-value j h = List·getD-append (valuesOf es) (drop (length (valuesOf es)) values) nan j (omega (arith, h, length-values es))
 
+  long : length (slots es) ≤ length (onto ids (onward next (length (slots es))))
+  long =
+      let n = length (slots es) in
+      omega (arith, length-append (onward next n) (drop (length (onward next n)) ids), length-onward next n)
+
   pub cannot-go-wrong : CannotGoWrong es (howMany point es) (howMany circle es) (howMany arc es) (rulesBefore es (length es)) next
       (onto ids (onward next (length (slots es)))) (onto values (valuesOf es)) (onto rows (encodeRows (rowsOf es next)))
   cannot-go-wrong = record {
@@ -84,6 +90,8 @@ module _ (es : List Entry) (w : Fine es) (few : length es ≤ layout.mostShapes)
     fit = λ j h. omega (arith, h, left, written-id j h);
     one-component = one-component es w;
     each-has-one = slot-of es w;
+    looked-up = λ i s k t c.
+        looked-up es few (onto ids (onward next (length (slots es)))) long i s k t (next + (firstSlot s es i + k)) c (written-id (firstSlot s es i + k) (slot-of es w i s k (c .declared) (c .one-of-it) .0));
     starts = λ j h. rw (written-value j h, value-at es j h) (starts es w j h);
     row-count = refl;
     one-row = λ i h u. (omega (arith, rule-inside es i h u, rules-all es), row-of es w next i h u left (drop (length (encodeRows (rowsOf es next))) rows));

@@ -6,6 +6,7 @@ pub mod Places
 pub mod Found
 pub mod Values
 pub mod Fields
+pub mod Looked
 pub mod Ids
 pub mod Named
 pub mod Rows

@@ -6,12 +6,15 @@ use lib.ListN.{length, getD, set, take, drop}
 use lib.Ieee.{Float, nan, binary64, ofBits}
 use Rattle.refusal.specs.First.{SomeBelow, EachBelow}
 use Rattle.layout.specs.declared.Stage.the-variants.{Done}
+use Rattle.layout.specs.declared.PointIds.the-variants as PI
+use Rattle.layout.specs.declared.CircleIds.the-variants as CI
+use Rattle.layout.specs.declared.ArcIds.the-variants as AI
 use Rattle.layout.specs.declared.PointRead.the-variants as PR
 use Rattle.layout.specs.declared.CircleRead.the-variants as CR
 use Rattle.layout.specs.declared.ArcRead.the-variants as AR
 use Rattle.layout.specs.Slots as layout
 use Rattle.layout.specs.Refusals.{idsEnd}
-use Rattle.layout.specs.Look.{pointRead, circleRead, arcRead}
+use Rattle.layout.specs.Look.{pointIds, circleIds, arcSlotIds, pointRead, circleRead, arcRead}
 use Rattle.layout.specs.Run.{Distinct}
 use Rattle.record.specs.Decode.{u16}
 use Rattle.record.specs.Entry.{Label, Entry, entryAt, labelNo}
@@ -24,7 +27,7 @@ use Rattle.drawing.specs.Check.{countBelow, checkedOf}
 use Rattle.lowering.specs.declared.Lowered.{Lowered}
 use Rattle.lowering.specs.declared.Lowered.the-variants as L
 use Rattle.lowering.specs.Slots.{Slot, slot, slots, slotsOfShape, flat, size, before, howMany, kindFor, layoutOf, firstSlot, numberFor}
-use Rattle.lowering.specs.Fields.{fieldOf}
+use Rattle.lowering.specs.Fields.{fieldOf, Ids, of-point, of-circle, of-arc, idsKind, idOf}
 use Rattle.lowering.specs.Rows.{namingOf, Names, namedIds, Row, rulesOf, rowBytes, mostIds, encodeRow}
 use Rattle.lowering.specs.Lower.{Room, roomIn, Lowers}
 
@@ -68,6 +71,21 @@ pub record OneComponent (es : List Entry) (j : ℕ) : Type 0 where
   pub this : ComponentOf es declaring-record shape component (slotAt es j)
   pub here : j ≡ firstSlot shape es declaring-record + component
   pub no-other : (i : ℕ) (s : Shape) (k : ℕ) → ComponentOf es i s k (slotAt es j) → (i ≡ declaring-record) × (s ≡ shape) × (k ≡ component)
+
+-- ---- ids by shape
+
+-- the lookup hands back these ids for the shape that record i declares, by its number among those of its kind
+abbrev pub HandsIds : List Entry → List ℕ → ℕ → Ids → Type 0
+HandsIds es ids i (of-point v) = pointIds (layoutOf es) ids (before point es i) ≡ PI.Found v
+HandsIds es ids i (of-circle v) = circleIds (layoutOf es) ids (before circle es i) ≡ CI.Found v
+HandsIds es ids i (of-arc v) = arcSlotIds (layoutOf es) ids (before arc es i) ≡ AI.Found v
+
+-- n is looked up as the id of the component t of the shape s that record i declares: it stands in the field that t is named for
+pub record LookedUp (es : List Entry) (ids : List ℕ) (i : ℕ) (s : Shape) (t : Slot) (n : ℕ) : Type 0 where
+  pub found : Ids
+  pub of-kind : idsKind found ≡ kindFor s
+  pub handed-back : HandsIds es ids i found
+  pub id-is : idOf found t ≡ n
 
 -- ---- starting values
 
@@ -158,6 +176,8 @@ pub record CannotGoWrong (es : List Entry) (P C A R next : ℕ) (ids : List ℕ)
   pub one-component : EachBelow (length (slots es)) (OneComponent es)
   pub each-has-one : (i : ℕ) (s : Shape) (k : ℕ) → Declares es i s → k < size s
       → (firstSlot s es i + k < length (slots es)) × ComponentOf es i s k (slotAt es (firstSlot s es i + k))
+  -- whose id the lookup by shape number hands back under its name,
+  pub looked-up : (i : ℕ) (s : Shape) (k : ℕ) (t : Slot) → ComponentOf es i s k t → LookedUp es ids i s t (next + (firstSlot s es i + k))
   -- and starts at that component's guess;
   pub starts : EachBelow (length (slots es)) (λ j. Starts es (slotAt es j) (getD values j nan))
   -- each rule has one row, in order, with exactly the ids of the components it names;
