@@ -200,7 +200,7 @@ pub extern "C" fn hunposeto_circle_ids(
     circle_ids_code(answer)
 }
 
-// The ids of arc i as source 002 has it: they are looked for right after the points.
+// The ids of arc i as geometry_variables.rs has it: they are looked for right after the points.
 #[no_mangle]
 pub extern "C" fn hunposeto_arc_ids(
     points: usize,

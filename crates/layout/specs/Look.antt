@@ -56,7 +56,7 @@ circleIds l ids i = told CI.Refused (lookTests Circle l (length ids) i) (CI.Foun
 abbrev pub arcIdsAt : Layout → List ℕ → ℕ → ℕ → ArcIds
 arcIdsAt l ids i at = told AI.Refused (lookTests Arc l (length ids) i) (AI.Found (arcVars ids at))
 
--- the ids of arc i as source 002 has it, from 2P on
+-- the ids of arc i as geometry_variables.rs has it, from 2P on
 unfoldable pub arcIds : Layout → List ℕ → ℕ → ArcIds
 arcIds l ids i = arcIdsAt l ids i (l .points * sizeOf Point + i * sizeOf Arc)
 

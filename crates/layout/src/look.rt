@@ -137,7 +137,7 @@ impl Layout {
         }
     }
 
-    // The ids of arc i as source 002 has it: they are looked for right after the points.
+    // The ids of arc i as geometry_variables.rs has it: they are looked for right after the points.
     pub fn arc_ids(self, ids: &[u32], i: usize) -> ArcIds
         ensures { λ r. ⌜ r ≡ arcIds self (now (ids .entry)) i ⌝ }
     {

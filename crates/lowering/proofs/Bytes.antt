@@ -149,14 +149,6 @@ module _ (es : List Entry) (w : Fine es) (next : ℕ) where
   pub length-rows : length (encodeRows (rowsOf es next)) ≡ length (rulesOf es) * rowBytes
   length-rows = length-flat encodeRow rowBytes (rowsOf es next) rows-fit ∙ ap (λ (n : ℕ). n * rowBytes) count-rows
 
-  -- the bytes of the rows of the first n records
-  pub length-rows-to : (n : ℕ) → n ≤ length es → length (encodeRows (map (rowFor es next) (rulesOf (take n es)))) ≡ rulesBefore es n * rowBytes
-  length-rows-to n h =
-      let fit : Each (λ r. length (encodeRow r) ≡ rowBytes) (map (rowFor es next) (rulesOf (take n es))) =
-      map-each (rowFor es next) Fits (rulesOf (take n es)) (fits-to n h) in
-      length-flat encodeRow rowBytes (map (rowFor es next) (rulesOf (take n es))) fit
-      ∙ ap (λ (m : ℕ). m * rowBytes) (length-map (rulesOf (take n es)) (rowFor es next) ∙ rules-before es n h)
-
   module _ (i : ℕ) (h : i < length es) (u : Rule (kindNo es i)) where
     getD-rows : getD (rowsOf es next) (rulesBefore es i) (rowFor es next noEntry) ≡ rowFor es next (entryAt es i)
     unfolding rowsOf

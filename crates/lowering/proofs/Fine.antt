@@ -20,7 +20,7 @@ use Rattle.index.specs.Labels.{kindNo, nameNo}
 use Rattle.drawing.specs.declared.Checked.the-variants as checked
 use Rattle.drawing.specs.Needs.{Shape, point, circle, arc, declaring, Part, parts, needAt}
 use Rattle.drawing.specs.Faults as faults
-use faults.{Declaration, Rule, Guess, Meets, Guessed, AnyUnguessed, Fault, malformed, declared-twice, wrong-label, no-such-part, guessed-twice, without-guess}
+use faults.{Declaration, Rule, Guess, Meets, Guessed, AnyUnguessed, Fault, malformed, declared-twice, wrong-label, guessed-twice, without-guess}
 use Rattle.drawing.specs.Check.{checkOf, countOf, answer, checkedOf}
 use Rattle.drawing.proofs.Agree.{says-meets, says-guessed, check-passes}
 use Rattle.lowering.specs.Demand.{Declares}
@@ -29,12 +29,11 @@ use Rattle.lowering.specs.Demand.{Declares}
 abbrev pub Once : List Entry → ℕ → Type 0
 Once es i = (j : ℕ) → j < length es → (j ≡ i → ⊥) → Declaration (kindNo es j) → nameNo es j ≡ nameNo es i → ⊥
 
--- records are sound; a label is declared once, and a part guessed once; each rule's labels and each guess's are what they need to be; each part is guessed
+-- records are sound; a label is declared once, and a part guessed once; each rule's labels are what they need to be; each part is guessed
 pub record Fine (es : List Entry) : Type 0 where
   pub sound : EachBelow (length es) (λ i. Sound (entryAt es i))
   pub once : EachBelow (length es) (λ i. Declaration (kindNo es i) → Once es i)
   pub met : EachBelow (length es) (λ i. Rule (kindNo es i) → EachBelow (kindAt (kindNo es i) .labels) (λ q. Meets es (needAt (kindNo es i) q) (labelNo (entryAt es i) q)))
-  pub guess-met : EachBelow (length es) (λ i. Guess (kindNo es i) → Meets es (needAt (kindNo es i) 0) (nameNo es i))
   pub guess-once : (i j : ℕ) → i < length es → j < length es → Guess (kindNo es i) → Guess (kindNo es j) → nameNo es i ≡ nameNo es j → i ≡ j
   pub guessed-all : (i : ℕ) (s : Shape) → Declares es i s → (p : Part) → List·Memᴰ p (parts s) → Guessed es (nameNo es i) p
 
@@ -57,7 +56,6 @@ fine es e =
             | no f ↦ none-holds declared-twice j (omega (arith, g)) (d′, (i, omega (arith, other, f), (d, sym same)))
           ];
       met = λ i h r q g. stable (says-meets es (needAt (kindNo es i) q) (labelNo (entryAt es i) q)) (λ n. none-holds wrong-label i (omega (arith, h)) (r, (q, g, n)));
-      guess-met = λ i h g. stable (says-meets es (needAt (kindNo es i) 0) (nameNo es i)) (λ n. none-holds no-such-part i (omega (arith, h)) (g, n));
       guess-once = λ i j h g a b same.
           elim (decLt j i) [
             | yes c ↦ absurd (none-holds guessed-twice i (omega (arith, h)) (a, (j, c, (b, sym same))))

@@ -4,7 +4,7 @@ use mathlib.Core.Logic.{⊎-elim}
 use mathlib.Core.Bool.{Bool, true, false, cond}
 use mathlib.Core.List.{List, [], _∷_, _++_, append-assoc, append-nil, map, List·Memᴰ, List·Memᴰ·head, List·Memᴰ·tail, List·Memᴰ·cases-cons, List·Memᴰ·not-nil}
 use Prim.Native.Nat.{ℕ, zero, suc, _+_, _*_, _≤_, _<_, suc-le-suc}
-use native.Mathlib.Nat.{le-refl, eq-or-lt-of-le, le-of-suc-le-suc, not-suc-le-zero, zero-lt-suc, zero-mul, suc-mul}
+use native.Mathlib.Nat.{le-refl, le-of-suc-le-suc, not-suc-le-zero, zero-lt-suc, zero-mul, suc-mul}
 use native.Mathlib.Omega.{arith}
 use lib.ListN.{length, getD, take, drop, length-append, length-map, List·getD-map}
 use lib.Seq.{split-at, take-suc, take-length, take-at, drop-at, drop-drop}
@@ -152,13 +152,3 @@ module _ {A B : Type 0} (p : A → Bool) (f : A → B) (g : List A → List B) (
       go : (b : Bool) → p x ≡ b → Each P (g xs) → Each P (cond b (f x ∷ g xs) (g xs))
       go true e a = (h 0 (zero-lt-suc (length xs)) e, a)
       go false e a = a
-
--- ---- sums
-
-pub sum-mono : (w : ℕ → ℕ) (m n : ℕ) → m ≤ n → sumTo w m ≤ sumTo w n
-sum-mono w m zero h = let e : m ≡ 0 = omega (arith, h) in rw e (le-refl 0)
-sum-mono w m (suc n) h =
-    ⊎-elim
-    (λ e. subst (λ (k : ℕ). sumTo w m ≤ sumTo w k) e (le-refl (sumTo w m)))
-    (λ l. omega (arith, sum-mono w m n (le-of-suc-le-suc l)))
-    (eq-or-lt-of-le h)

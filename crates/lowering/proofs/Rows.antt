@@ -26,7 +26,7 @@ use Rattle.lowering.specs.Slots.{slots, flat, size, firstSlot}
 use Rattle.lowering.specs.Rows.{whole, part, center, namingOf, names, namedIds, mostIds}
 use Rattle.lowering.specs.Offsets.{componentAt, widthOf, idsAt, sumTo, idsOfKind}
 use Rattle.lowering.specs.Demand.{slotAt, Declares, Carries}
-use Rattle.lowering.proofs.Lists.{sum-to, sum-flat, sum-mono}
+use Rattle.lowering.proofs.Lists.{sum-to, sum-flat}
 use Rattle.lowering.proofs.Fine.{Fine}
 use Rattle.lowering.proofs.Ids.{ids-named, ids-has, ids-rise}
 use Rattle.lowering.proofs.Named.{says-names, PairPart, the-point, circle-center, arc-center, XY, whole-ids, part-ids, center-ids}
@@ -179,9 +179,6 @@ module _ (es : List Entry) (w : Fine es) (next i : ℕ) (h : i < length es) (u :
 
   pub ids-few : length (flat (namedIds es next (entryAt es i)) (entryAt es i .labels)) ≤ mostIds
   ids-few = rw ids-count (few-ids (kindNo es i) u)
-
-  pub ids-few-to : (n : ℕ) → n ≤ length (entryAt es i .labels) → length (flat (namedIds es next (entryAt es i)) (take n (entryAt es i .labels))) ≤ mostIds
-  ids-few-to n g = omega (arith, ids-to n g, sum-mono (idsAt (e .kind)) n (kindAt (e .kind) .labels) (rw label-count at g), few-ids (e .kind) u)
 
   -- those of a label are exactly the ids of the slots that it names
   pub carries : (q : ℕ) → q < length (entryAt es i .labels) → Carries es next (entryAt es i) (labelNo (entryAt es i) q) (namedIds es next (entryAt es i) (labelNo (entryAt es i) q))

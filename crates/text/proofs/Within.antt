@@ -99,15 +99,3 @@ module _ (s : List ℕ) where
     label-within (At n) h = earlier s (labelAt s n .then) (h .0) (labelAt-within n)
     label-within Nothing h = tt
     label-within (Refused number place) h = tt
-
-  -- the label that was read, by its first byte
-  start-decided : (t : Bool) (at next : ℕ) → Within s at (cond t (noLabel Nothing) (record { start = at; len = next - at; then = At next }) .then)
-      → Within s (cond t (noLabel Nothing) (record { start = at; len = next - at; then = At next }) .start) (cond t (noLabel Nothing) (record { start = at; len = next - at; then = At next }) .then)
-  start-decided true at next h = tt
-  start-decided false at next h = h
-
-  pub start-within : (stand : Stand) → Within s (labelOn s stand .start) (labelOn s stand .then)
-  unfolding labelOn labelAt
-  start-within (At n) = start-decided (leb (alphanumTo s n) n) n (alphanumTo s n) (labelAt-within n)
-  start-within Nothing = tt
-  start-within (Refused number place) = tt
