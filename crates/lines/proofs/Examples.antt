@@ -12,7 +12,8 @@ use Rattle.layout.specs.declared.Stage.the-variants.{Done}
 use Rattle.drawing.specs.declared.Checked.the-variants as C
 use Rattle.lowering.specs.declared.Lowered.the-variants as L
 use Rattle.lowering.specs.Rows.{Row, encodeRow}
-use Rattle.lines.specs.Lines.{joined, quoted, spaced, firstLine, lineOf}
+use Rattle.rail.specs.Words.{joined, quoted, spaced}
+use Rattle.lines.specs.Lines.{firstLine, lineOf}
 use Rattle.lines.specs.Drawn.{checkedLine, loweredLine, slotLine, decodeRow, rowOf, rowLine}
 
 -- quoted labels

@@ -16,7 +16,8 @@ use Rattle.lowering.specs.declared.Lowered.{Lowered}
 use Rattle.lowering.specs.declared.Lowered.the-variants as L
 use Rattle.lowering.specs.Rows.{Row, rowBytes, mostIds}
 use Rattle.lowering.specs.Demand.{u32, rowNo}
-use Rattle.lines.specs.Lines.{lineWith, refusedLine, lineOf}
+use Rattle.rail.specs.Words.{lineWith}
+use Rattle.lines.specs.Lines.{refusedLine, lineOf}
 
 -- ---- the first line
 

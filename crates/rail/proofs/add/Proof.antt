@@ -1,8 +1,8 @@
--- `lines::rail::add` meets its contract: by whether there is a place, and whether bytes are due. Assumes nothing.
+-- `rail::add` meets its contract: by whether there is a place, and whether bytes are due. Assumes nothing.
 use borrow.Author.Needs.{needs}
-use Rattle.lines.proofs.Added.{nowhere, measured, put-at}
-use Rattle.lines.proofs.rail.add.Statement.{statement}
-use Rattle.lines.proofs.rail.add.Tie as tie
+use Rattle.rail.proofs.Added.{nowhere, measured, put-at}
+use Rattle.rail.proofs.add.Statement.{statement}
+use Rattle.rail.proofs.add.Tie as tie
 
 returns : tie.Need-returns
 returns c = nowhere (c .before .before .moved .ensures) (c .enum-told .given .1)

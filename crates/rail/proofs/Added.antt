@@ -10,9 +10,10 @@ use lib.ListN.{length, length-append}
 use borrow.Author.Tests.{le-leb, lt-leb}
 use Rattle.store.specs.Store.{room, written, Put}
 use Rattle.store.proofs.Laws.{written-length, written-append}
-use Rattle.lines.specs.Rail.{nextPlace, putAt, Prints, Adds}
-use Rattle.lines.specs.declared.Place.{Place}
-use Rattle.lines.specs.declared.Place.the-variants.{At, Full}
+use Rattle.rail.specs.Rail.{nextPlace, putAt, Prints}
+use Rattle.rail.specs.Steps.{Adds}
+use Rattle.rail.specs.declared.Place.{Place}
+use Rattle.rail.specs.declared.Place.the-variants.{At, Full}
 
 -- ---- places
 
@@ -53,37 +54,28 @@ next-both size (At n) a b =
       | no f ↦ rw (lt-leb (n + a) size (omega arith), lt-leb (n + (a + b)) size (omega arith))
     ]
 
--- ---- bytes added
+-- ---- one piece
+
+unless : (v : Bool) (d : List ℕ) → d ≡ cond v d d
+unless true d = refl
+unless false d = refl
 
 module _ {w : Bool} {d bs : List ℕ} {p r : Place} where
   -- where there is no place
-  pub nowhere : r ≡ nextPlace (length d) p (length bs) → p ≡ Full → Adds w d p bs r d
-  nowhere e f = record { told = e; size = refl; kept = λ g. refl; put = λ g n m h k. absurd (never-full (sym h ∙ f)) }
+  pub nowhere : r ≡ nextPlace (length d) p (length bs) → p ≡ Full → Prints w d p bs r d
+  nowhere e f = record { told = e; buffer = rw f (unless w d) }
 
   -- measured alone
-  pub measured : r ≡ nextPlace (length d) p (length bs) → w ≡ false → Adds w d p bs r d
-  measured e f = record { told = e; size = refl; kept = λ g. refl; put = λ g n m h k. absurd (true≢false (sym g ∙ f)) }
+  pub measured : r ≡ nextPlace (length d) p (length bs) → w ≡ false → Prints w d p bs r d
+  measured e f = record { told = e; buffer = rw f }
 
   -- put at a place
-  pub put-at : {after : List ℕ} {ok : Bool} (n : ℕ) → r ≡ nextPlace (length d) p (length bs) → p ≡ At n → w ≡ true → Put d n bs ok after → Adds w d p bs r after
-  put-at {after} n e f t x =
-      record {
-        told = e;
-        size = ap length (x .buffer) ∙ same;
-        kept = λ g. absurd (true≢false (sym t ∙ g));
-        put = λ g k m h l. put k (cc) m l;
-      }
-    where
-      same : length (cond (room d n bs) (written d n bs) d) ≡ length d
-      same = elim (decLe (n + length bs) (length d)) [
-        | yes h ↦ rw (le-leb (n + length bs) (length d) h) (written-length d n bs h)
-        | no h ↦ rw (lt-leb (n + length bs) (length d) (omega arith))
-      ]
+  pub put-at : {after : List ℕ} {ok : Bool} (n : ℕ) → r ≡ nextPlace (length d) p (length bs) → p ≡ At n → w ≡ true → Put d n bs ok after → Prints w d p bs r after
+  put-at n e f t x = record { told = e; buffer = x .buffer ∙ rw (t, f) }
 
-      put : (k : ℕ) → k ≡ n → (m : ℕ) → r ≡ At m → after ≡ written d k bs
-      put k i m l =
-          let h = moved (length d) n (length bs) m (sym l ∙ e ∙ ap (λ (z : Place). nextPlace (length d) z (length bs)) f) .room in
-          x .buffer ∙ rw (le-leb (n + length bs) (length d) h, i)
+  -- the same bytes, said otherwise
+  pub prints-said : {after cs : List ℕ} → Prints w d p bs r after → bs ≡ cs → Prints w d p cs r after
+  prints-said {after} x e = subst (λ (l : List ℕ). Prints w d p l r after) e x
 
 -- ---- bytes added one after the other
 

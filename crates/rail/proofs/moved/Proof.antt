@@ -1,10 +1,10 @@
--- `lines::rail::moved` meets its contract: each test tells whether there is room. Assumes nothing.
+-- `rail::moved` meets its contract: each test tells whether there is room. Assumes nothing.
 use mathlib.Core.Path.{sym}
 use native.Mathlib.Omega.{arith}
 use borrow.Author.Needs.{needs}
-use Rattle.lines.proofs.Added.{next-at, next-full}
-use Rattle.lines.proofs.rail.moved.Statement.{statement}
-use Rattle.lines.proofs.rail.moved.Tie as tie
+use Rattle.rail.proofs.Added.{next-at, next-full}
+use Rattle.rail.proofs.moved.Statement.{statement}
+use Rattle.rail.proofs.moved.Tie as tie
 
 returns-2 : tie.Need-returns-2
 returns-2 c =
