@@ -9,9 +9,9 @@ ghost use Rattle.rail.specs.Rail.{Prints};
 ghost use Rattle.rail.specs.Steps.{Adds};
 ghost use Rattle.answers.specs.Answers.{drawingLines};
 ghost use Rattle.answers.specs.Steps.{Read, slotsBy, loweredBy};
-use rail::Place;
 use lowering::Lowered;
 use lowering::ROW;
+use rail::Place;
 
 // Room for six slots for each of 1,800 records, and for a row of 44 bytes for each.
 const SLOTS: usize = 10_800;

@@ -11,10 +11,10 @@ ghost use Rattle.lowering.specs.Rows.{rowBytes, mostIds};
 ghost use Rattle.rail.specs.Words.{spaced};
 ghost use Rattle.lines.specs.Drawn.{tallyLine, checkedLine, loweredLine, slotLine, Wide, idAt, idsIn, decodeRow, rowLine};
 ghost use Rattle.rail.specs.Steps.{Adds};
-use rail::Place;
 use super::words;
 use drawing::Checked;
 use lowering::Lowered;
+use rail::Place;
 
 // The most ids of a row.
 const MOST: usize = 8;
