@@ -8,12 +8,12 @@ ghost use lib.ListN.{length};
 ghost use Rattle.record.specs.Decode.{decodeAt};
 ghost use Rattle.record.specs.Entry.{entryOf};
 ghost use Rattle.lines.specs.Lines.{firstLine, lineOf};
-ghost use Rattle.lowering.specs.Rows.{rowBytes};
-ghost use Rattle.lines.specs.Drawn.{checkedLine, loweredLine, slotLine, decodeRow, rowOf, rowLine};
+ghost use Rattle.row.specs.Row.{rowBytes, decodeRow, rowOf};
+ghost use Rattle.lines.specs.Drawn.{checkedLine, loweredLine, slotLine, rowLine};
 ghost use Rattle.rail.specs.Rail.{Prints};
 use drawing::Checked;
 use lowering::Lowered;
-use lowering::ROW;
+use row::ROW;
 use rail::Place;
 use reader::Reading;
 

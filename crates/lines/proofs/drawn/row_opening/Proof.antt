@@ -10,7 +10,7 @@ use Rattle.print.specs.Print.{decimalOf}
 use Rattle.record.specs.Entry.{upTo}
 use Rattle.rail.specs.declared.Place.{Place}
 use Rattle.rail.specs.Words.{spaced}
-use Rattle.lines.specs.Drawn.{idAt, idsIn}
+use Rattle.row.specs.Row.{idAt, idsIn}
 use Rattle.rail.specs.Steps.{Adds}
 use Rattle.rail.proofs.Added.{added, both, said}
 use Rattle.lines.proofs.Spaced.{label-more}
