@@ -12,8 +12,8 @@ ghost use Rattle.lowering.specs.Steps.{Passing, Filled, lackTold};
 use drawing::Checked;
 use drawing::check;
 use layout::Layout;
-use rules::fill_rows;
 use row::ROW;
+use rules::fill_rows;
 use shapes::fill_slots;
 
 // One past the largest id.
