@@ -4,6 +4,7 @@ use mathlib.Core.List.{List, [], _∷_, _++_}
 use Prim.Native.Nat.{ℕ, _-_}
 use lib.Dec.{leb}
 use lib.ListN.{replicate}
+use Rattle.ground.specs.Lists.{flat}
 use Rattle.bytes.specs.Little.{le16, le64}
 use Rattle.record.specs.declared.View.{View}
 use Rattle.record.specs.declared.Record.{Record}
@@ -49,22 +50,17 @@ oneLabel kind third label x y =
 abbrev pub encodeView : View → List ℕ
 encodeView v = le16 (v .start) ++ le16 (v .len)
 
--- views one after another
-abbrev pub encodeViews : List View → List ℕ
-encodeViews [] = []
-encodeViews (v ∷ vs) = encodeView v ++ encodeViews vs
-
 -- the mark, the third byte, and the count of labels
 abbrev pub opening : Record → List ℕ
 opening r = mark ∷ r .kind ∷ r .third ∷ r .count ∷ []
 
 -- an instruction: its label places, then the number
 abbrev pub instruction : Record → List ℕ
-instruction r = opening r ++ encodeViews (upTo labelPlaces (viewOf r)) ++ le64 (r .x)
+instruction r = opening r ++ flat encodeView (upTo labelPlaces (viewOf r)) ++ le64 (r .x)
 
 -- a guess: one label, the bits of x and y, and four zeros
 abbrev pub guess : Record → List ℕ
-guess r = opening r ++ encodeViews (upTo 1 (viewOf r)) ++ le64 (r .x) ++ le64 (r .y) ++ (0 ∷ 0 ∷ 0 ∷ 0 ∷ [])
+guess r = opening r ++ flat encodeView (upTo 1 (viewOf r)) ++ le64 (r .x) ++ le64 (r .y) ++ (0 ∷ 0 ∷ 0 ∷ 0 ∷ [])
 
 unfoldable pub encode : Record → List ℕ
 encode r = cond (leb firstGuess (r .kind)) (guess r) (instruction r)
