@@ -1,10 +1,9 @@
 -- A number that fits its bytes comes back from them, wherever they stand: by induction on how many there are. Assumes nothing.
 use mathlib.Core.Path.{_≡_, refl, ap, _∙_}
-use mathlib.Core.List.{List, [], _∷_, _++_, append-nil}
-use Prim.Native.Nat.{ℕ, zero, suc, _+_, _*_, _/_, _%_, _^_, _<_}
+use mathlib.Core.List.{List, [], _∷_, _++_}
+use Prim.Native.Nat.{ℕ, zero, suc, _+_, _/_, _%_, _^_, _<_}
 use native.Mathlib.Nat.{pow-suc, div-lt-iff-lt-mul}
 use native.Mathlib.Omega.{arith}
-use native.Mathlib.Numerals.{add-one}
 use lib.ListN.{length, List·getD-append}
 use lib.Seq.{getD-append-add}
 use Rattle.bytes.specs.Little.{le, byte, numberAt}
@@ -30,6 +29,10 @@ same-bytes (suc n) a b k m h = rw (here, same-bytes n a b (k + 1) (m + 1) (λ j 
         let f : k + 1 + j ≡ k + (j + 1) = omega arith in
         let g : m + 1 + j ≡ m + (j + 1) = omega arith in
         rw (f, g) e
+
+-- a place behind another, as the code counts it
+pub next-place : (k i : ℕ) → k + i + 1 ≡ k + (i + 1)
+next-place k i = omega arith
 
 -- what stands before the bytes, and what stands behind them
 pub number-behind : (n : ℕ) (a l : List ℕ) (k : ℕ) → numberAt n (a ++ l) (length a + k) ≡ numberAt n l k
