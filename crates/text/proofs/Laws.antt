@@ -23,7 +23,7 @@ use Rattle.text.proofs.Stand.{the-type}
 pub handed {ℓ} : {X : Type ℓ} (stand : Stand) (rest : X) (read : ℕ → X) → OneOf (1 ∷ 2 ∷ []) (tagOf the-type stand) → rest ≡ from stand rest read
 handed (At n) rest read h = absurd (⊎-elim (λ (e : 0 ≡ 1). omega arith) (λ (e : 0 ≡ 2). omega arith) h)
 handed Nothing rest read h = refl
-handed (Refused number place) rest read h = refl
+handed (Refused why) rest read h = refl
 
 -- ---- a byte by its place
 

@@ -15,7 +15,11 @@ use Rattle.text.specs.declared.Label.{Label}
 abbrev pub from {ℓ} : {X : Type ℓ} → Stand → X → (ℕ → X) → X
 from (At n) rest read = read n
 from Nothing rest read = rest
-from (Refused number place) rest read = rest
+from (Refused why) rest read = rest
+
+-- a refusal by its number at a place
+abbrev pub refusedAt : ℕ → ℕ → Stand
+refusedAt number place = Refused (record { number = number; place = place })
 
 -- ---- bytes
 

@@ -3,12 +3,13 @@
 ghost use mathlib.Core.Path.{_≡_};
 ghost use lib.ListN.{getD};
 ghost use Rattle.text.specs.Text.{isSpace, isAlphanum, spacesTo, alphanumTo, wsOn, labelOn, joined, suffixedOn, dottedOn, wordAt, wordOn, byteOn, newlineOn};
+use refusal::Refusal;
 
-// A place of the text; nothing read; or a refusal with its number and place.
+// A place of the text; nothing read; or a refusal.
 pub enum Stand {
     At(usize),
     Nothing,
-    Refused { number: u8, place: usize },
+    Refused(Refusal),
 }
 
 // A label by its first byte and its length, and where reading stands behind it.
