@@ -90,7 +90,7 @@ module _ (s : List ℕ) (short : length s ≤ 32768) (w : Fine (linesOf s)) (lef
       (λ j g t.
       record {
         few = ids-few (linesOf s) w 0 j g (says-within 4 23 (kindNo (linesOf s) j) .so t);
-        ids-fit = λ q b. id-fits (entryAt (linesOf s) j) q;
+        ids-fit = λ q. id-fits (entryAt (linesOf s) j) q;
         bits-fit = bits-fit j g;
       }))
 
@@ -179,7 +179,7 @@ module _ {s bs : List ℕ} (read : Read s bs) {told : Lowered} {ids : List ℕ} 
     fits = rows-fit s (read .short) (fine (linesOf s) passes) (slots-most (linesOf s) few)
 
     written-length : length (encodeRows (rowsOf (linesOf s) 0)) ≡ count * rowBytes
-    written-length = omega (arith, rows-length (rowsOf (linesOf s) 0) fits, count-rows (linesOf s) (fine (linesOf s) passes) 0, count-is)
+    written-length = omega (arith, rows-length (rowsOf (linesOf s) 0) fits, count-rows (linesOf s) 0, count-is)
 
     -- what was written
     ids-taken : take next ids ≡ onward 0 (length (slots (linesOf s)))

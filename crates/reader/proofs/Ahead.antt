@@ -35,12 +35,12 @@ module _ {s : List ℕ} {p : ℕ} where
       go : (t : Stand) → In s p (x .then) → In s p (orStand t x y .then)
       go (At n) f = f
       go Nothing f = k
-      go (Refused code place) f = f
+      go (Refused why) f = f
 
   line-in : (r : Record) (twin : Bool) (t : Stand) → In s p t → In s p (lineOf r twin t .then)
   line-in r twin (At n) h = h
   line-in r twin Nothing h = h
-  line-in r twin (Refused code place) h = h
+  line-in r twin (Refused why) h = h
 
   -- ---- pieces
 
@@ -73,7 +73,7 @@ module _ {s : List ℕ} {p : ℕ} where
       go : (w : Stand) → In s p (wordOn s t a) → In s p (wordOn s t b) → In s p (orStand w (side 1 (wordOn s t a)) (side 2 (wordOn s t b)) .then)
       go (At n) f g = f
       go Nothing f g = g
-      go (Refused code place) f g = f
+      go (Refused why) f g = f
 
   pair-in : {t : Stand} → In s p t → In s p (pairOn s t .then)
   unfolding pairOn
@@ -86,7 +86,7 @@ module _ {s : List ℕ} {p : ℕ} where
       go : (t : Stand) → In s p t → In s p (from t l (λ next. record { start = l .start; len = next - l .start; then = At next }) .then)
       go (At n) k = k
       go Nothing k = h
-      go (Refused code place) k = h
+      go (Refused why) k = h
 
   -- ---- forms
 
@@ -162,7 +162,7 @@ module _ {s : List ℕ} {p : ℕ} where
       go : (w : Stand) (a b : Line) → In s p (a .then) → In s p (b .then) → In s p (orStand w a b .then)
       go (At n) a b f g = f
       go Nothing a b f g = g
-      go (Refused code place) a b f g = f
+      go (Refused why) a b f g = f
 
   pub guess-in : {t : Stand} → In s p t → In s p (guessOn s t .then)
   unfolding guessOn

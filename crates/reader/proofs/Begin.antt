@@ -43,18 +43,18 @@ or-assoc a b c = go (a .then) refl
     go : (t : Stand) → a .then ≡ t → orStand (orStand t a b .then) (orStand t a b) c ≡ orStand t a (orLine b c)
     go (At n) e = rw e
     go Nothing e = refl
-    go (Refused number place) e = rw e
+    go (Refused why) e = rw e
 
 -- a line that was read, or refused, is taken
 pub line-taken : (r : Record) (twin : Bool) (t : Stand) (other : Line) → OneOf (0 ∷ 2 ∷ []) (tagOf the-type t) → lineOf r twin t ≡ orLine (lineOf r twin t) other
 line-taken r twin (At n) other h = refl
 line-taken r twin Nothing other h = absurd (⊎-elim (λ (e : 1 ≡ 0). omega arith) (λ (e : 1 ≡ 2). omega arith) h)
-line-taken r twin (Refused number place) other h = refl
+line-taken r twin (Refused why) other h = refl
 
 line-or : (r : Record) (twin : Bool) (t : Stand) → orLine (lineOf r twin t) (noLine Nothing) ≡ lineOf r twin t
 line-or r twin (At n) = refl
 line-or r twin Nothing = refl
-line-or r twin (Refused number place) = refl
+line-or r twin (Refused why) = refl
 
 -- ---- a word by its first byte
 
@@ -100,7 +100,7 @@ component-halts : (s : List ℕ) (l : Label) (k : ℕ) (t : Stand) → NoPlace t
 unfolding eitherOn wordOn aroundOn wsOn byteOn numberOn
 component-halts s l k (At n) h = no-place-at n h
 component-halts s l k Nothing h = refl
-component-halts s l k (Refused number place) h = refl
+component-halts s l k (Refused why) h = refl
 
 fixed-halts : (s : List ℕ) (l : Label) (k : ℕ) (between : List ℕ) (t : Stand) → wordOn s (l .then) between ≡ t → NoPlace t → fixedOn s l k between ≡ noLine t
 unfolding fixedOn
@@ -110,7 +110,7 @@ stays : (s w : List ℕ) (t : Stand) → NoPlace t → wordOn s t w ≡ t
 unfolding wordOn
 stays s w (At n) h = no-place-at n h
 stays s w Nothing h = refl
-stays s w (Refused number place) h = refl
+stays s w (Refused why) h = refl
 
 -- ---- assignments
 
@@ -118,13 +118,13 @@ unsuffixed : (s : List ℕ) (l : Label) (t : Stand) → byteOn s (l .then) 46 �
 unfolding suffixedOn labelOn
 unsuffixed s l (At n) e h = no-place-at n h
 unsuffixed s l Nothing e h = rw e
-unsuffixed s l (Refused number place) e h = rw e
+unsuffixed s l (Refused why) e h = rw e
 
 pair-halts : (s : List ℕ) (l : Label) (t : Stand) → NoPlace t → lineOf (labelled 4 1 l (pairOn s t .x) (pairOn s t .y)) true (pairOn s t .then) ≡ noLine t
 unfolding pairOn byteOn wsOn numberOn
 pair-halts s l (At n) h = no-place-at n h
 pair-halts s l Nothing h = refl
-pair-halts s l (Refused number place) h = refl
+pair-halts s l (Refused why) h = refl
 
 assign-halts : (s : List ℕ) (l : Label) (t : Stand) → suffixedOn s l ≡ l → equalsOn s (l .then) ≡ t → NoPlace t → noLine t ≡ assignOn s l
 unfolding assignOn
@@ -134,13 +134,13 @@ byte-stays : (s : List ℕ) (b : ℕ) (t : Stand) → NoPlace t → byteOn s t b
 unfolding byteOn
 byte-stays s b (At n) h = no-place-at n h
 byte-stays s b Nothing h = refl
-byte-stays s b (Refused number place) h = refl
+byte-stays s b (Refused why) h = refl
 
 around-stays : (s : List ℕ) (b : ℕ) (t : Stand) → NoPlace t → aroundOn s t b ≡ t
 unfolding aroundOn wsOn byteOn
 around-stays s b (At n) h = no-place-at n h
 around-stays s b Nothing h = refl
-around-stays s b (Refused number place) h = refl
+around-stays s b (Refused why) h = refl
 
 assign-nowhere : (s : List ℕ) (l : Label) → NoPlace (l .then) → noLine (l .then) ≡ assignOn s l
 assign-nowhere s l h = assign-halts s l (l .then) (unsuffixed s l (l .then) (byte-stays s 46 (l .then) h) h) (around-stays s 61 (l .then) h) h
@@ -220,9 +220,9 @@ declarations-halt : (s : List ℕ) (t : Stand) → NoPlace t → declarationOn s
 unfolding declareOn wsOn wordOn labelOn
 declarations-halt s (At n) h = no-place-at n h
 declarations-halt s Nothing h = refl
-declarations-halt s (Refused number place) h = refl
+declarations-halt s (Refused why) h = refl
 
 pub forms-nowhere : (s : List ℕ) (t : Stand) → NoPlace t → noLine t ≡ orLine (declarationOn s t) (labelFormsOn s t)
 forms-nowhere s (At n) h = no-place-at n h
 forms-nowhere s Nothing h = rw (declarations-halt s Nothing h) (sym (labels-nowhere s))
-forms-nowhere s (Refused number place) h = rw (declarations-halt s (Refused number place) h)
+forms-nowhere s (Refused why) h = rw (declarations-halt s (Refused why) h)

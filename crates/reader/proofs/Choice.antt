@@ -14,4 +14,4 @@ use Rattle.reader.specs.Forms.{orStand}
 pub taken : {X : Type 0} (stand : Stand) (first second : X) → OneOf (0 ∷ 2 ∷ []) (tagOf the-type stand) → first ≡ orStand stand first second
 taken (At n) first second h = refl
 taken Nothing first second h = absurd (⊎-elim (λ (e : 1 ≡ 0). omega arith) (λ (e : 1 ≡ 2). omega arith) h)
-taken (Refused number place) first second h = refl
+taken (Refused why) first second h = refl

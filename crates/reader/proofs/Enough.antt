@@ -57,7 +57,7 @@ module _ (s : List ℕ) where
           → from t (none (stopped at t)) (λ next. after (recordsOf l) (f next)) ≡ from t (none (stopped at t)) (λ next. after (recordsOf l) (h next))
       go (At next) i = ap (after (recordsOf l)) (e next i)
       go Nothing i = refl
-      go (Refused number place) i = refl
+      go (Refused why) i = refl
 
   -- one line more than none makes no difference past the end
   none-past : (k : ℕ) (g : Bool) (at : ℕ) → length s ≤ at → restOf k g s at ≡ none (At at)

@@ -94,7 +94,7 @@ module _ (s : List ℕ) where
   unfolding labelOn
   label-found (At n) h = label-at n h .found
   label-found Nothing h = absurd (h .is)
-  label-found (Refused number place) h = absurd (h .is)
+  label-found (Refused why) h = absurd (h .is)
 
 -- ---- two labels around a point
 
@@ -142,7 +142,7 @@ module _ (s : List ℕ) where
           → (t : Stand) → m .then ≡ t → Found s true (from t l (λ next. record { start = l .start; len = next - l .start; then = At next }))
       second m e g (At next) k = both-found l m f (g (rw k (here next))) e next k
       second m e g Nothing k = dotted l f
-      second m e g (Refused number place) k = dotted l f
+      second m e g (Refused why) k = dotted l f
 
       go : (t : Bool) → starts (46 ∷ []) (drop (l .start + l .len) s) ≡ t
           → Found s true (from (labelOn s (cond t (At (l .start + l .len + 1)) Nothing) .then) l (λ next. record { start = l .start; len = next - l .start; then = At next }))

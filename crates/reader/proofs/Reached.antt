@@ -20,7 +20,7 @@ use Rattle.reader.specs.Page.{due, headingOn, optNewlineOn}
 abbrev pub Place : Stand → Type 0
 Place (At n) = Unit {0}
 Place Nothing = ⊥
-Place (Refused number place) = ⊥
+Place (Refused why) = ⊥
 
 -- reading stands at a place
 pub record Reached (t : Stand) : Type 0 where
@@ -43,13 +43,13 @@ module _ {X : Type 0} (then : X → Stand) (t : Stand) where
   from-behind : (u : Stand) (rest : X) (read : ℕ → X) → Behind t u → Behind t (then rest) → Behind t (then (from u rest read))
   from-behind (At n) rest read f g = record { back = λ h. f .back (here n) }
   from-behind Nothing rest read f g = g
-  from-behind (Refused number place) rest read f g = g
+  from-behind (Refused why) rest read f g = g
 
   -- one of two
   or-behind : (u : Stand) (x y : X) → Behind t (then x) → Behind t (then y) → Behind t (then (orStand u x y))
   or-behind (At n) x y f g = f
   or-behind Nothing x y f g = g
-  or-behind (Refused number place) x y f g = f
+  or-behind (Refused why) x y f g = f
 
 -- ---- readers
 
@@ -144,5 +144,5 @@ pub due-behind : {t : Stand} (before read : Stand) (code : ℕ) → Behind t rea
 due-behind before (At n) code f = f
 due-behind (At p) Nothing code f = record { back = λ h. absurd (h .is) }
 due-behind Nothing Nothing code f = f
-due-behind (Refused c q) Nothing code f = f
-due-behind before (Refused c q) code f = f
+due-behind (Refused why) Nothing code f = f
+due-behind before (Refused why) code f = f

@@ -137,7 +137,7 @@ side-third s t a b = go (wordOn s t a)
     go : (u : Stand) → (orStand u (side 1 (wordOn s t a)) (side 2 (wordOn s t b)) .third ≤ either) × (0 < orStand u (side 1 (wordOn s t a)) (side 2 (wordOn s t b)) .third)
     go (At n) = (omega arith, omega arith)
     go Nothing = (omega arith, omega arith)
-    go (Refused number place) = (omega arith, omega arith)
+    go (Refused why) = (omega arith, omega arith)
 
 -- the third bytes of a sort of number
 abbrev thirdsOf : ℕ → ℕ
@@ -194,12 +194,12 @@ module _ (s : List ℕ) (guess : Bool) (t : Stand) where
   one-lined : (r : Record) (u : Stand) → Behind t u → (Reached u → Proper s guess r) → Lined s guess t (lineOf r false u)
   one-lined r (At n) b p = record { behind = b; proper = λ h. (p h, tt) }
   one-lined r Nothing b p = no-line Nothing (λ h. h .is)
-  one-lined r (Refused number place) b p = no-line (Refused number place) (λ h. h .is)
+  one-lined r (Refused why) b p = no-line (Refused why) (λ h. h .is)
 
   two-lined : (r : Record) (u : Stand) → Behind t u → (Reached u → Proper s guess (component r 1 (r .x))) → (Reached u → Proper s guess (component r 2 (r .y))) → Lined s guess t (lineOf r true u)
   two-lined r (At n) b p q = record { behind = b; proper = λ h. (p h, (q h, tt)) }
   two-lined r Nothing b p q = no-line Nothing (λ h. h .is)
-  two-lined r (Refused number place) b p q = no-line (Refused number place) (λ h. h .is)
+  two-lined r (Refused why) b p q = no-line (Refused why) (λ h. h .is)
 
   -- a line that is read from behind t on is read from t on
   further : {u : Stand} {l : Line} → Behind t u → Lined s guess u l → Lined s guess t l
@@ -208,7 +208,7 @@ module _ (s : List ℕ) (guess : Bool) (t : Stand) where
   or-lined : (u : Stand) (x y : Line) → Lined s guess t x → Lined s guess t y → Lined s guess t (orStand u x y)
   or-lined (At n) x y f g = f
   or-lined Nothing x y f g = g
-  or-lined (Refused number place) x y f g = f
+  or-lined (Refused why) x y f g = f
 
 -- ---- forms
 

@@ -48,7 +48,7 @@ module _ (s : List ℕ) (guess : Bool) where
       go : (u : Stand) → l .then ≡ u → Each (Proper s guess) (from u (none (stopped at (l .then))) (λ next. after (recordsOf l) (rest next)) .records)
       go (At next) e = each-both (Proper s guess) (recordsOf l) (rest next .records) (f .proper (rw e (here next))) (g next)
       go Nothing e = tt
-      go (Refused number place) e = tt
+      go (Refused why) e = tt
 
   rest-proper : (most at : ℕ) → Each (Proper s guess) (restOf most guess s at .records)
   unfolding restOf
@@ -76,7 +76,7 @@ module _ (s : List ℕ) (guess : Bool) where
             some = λ h. omega (arith, some-record (lineOn guess s t), length-append (recordsOf (lineOn guess s t)) (restOf (length s) guess s next .records));
           }
       go Nothing b = record { proper = tt; behind = record { back = λ h. absurd (h .is) }; some = λ h. absurd (h .is) }
-      go (Refused number place) b = record { proper = tt; behind = record { back = λ h. absurd (h .is) }; some = λ h. absurd (h .is) }
+      go (Refused why) b = record { proper = tt; behind = record { back = λ h. absurd (h .is) }; some = λ h. absurd (h .is) }
 
 -- ---- the records of a page
 

@@ -44,7 +44,7 @@ rest-left (suc most) g s at = refl
 missed-none : (stand : Stand) (number : ℕ) (read : ℕ → Lines) → from (missed stand number) (none (missed stand number)) read ≡ none (missed stand number)
 missed-none (At place) number read = refl
 missed-none Nothing number read = refl
-missed-none (Refused code place) number read = refl
+missed-none (Refused why) number read = refl
 
 lines-left : (g : Bool) (s : List ℕ) (stand : Stand) (number : ℕ) → linesOn g s stand number ≡ leftOf (suc (length s)) g s stand (missed stand number)
 unfolding linesOn leftOf
@@ -54,7 +54,7 @@ lines-left g s stand number = go (lineOn g s stand .then) (λ next. after (recor
         → from (orStand t t (missed stand number)) (none (orStand t t (missed stand number))) read ≡ from t (none (orStand t t (missed stand number))) read
     go (At n) read = refl
     go Nothing read = missed-none stand number read
-    go (Refused code place) read = refl
+    go (Refused why) read = refl
 
 -- ---- what holds at the loop's head: k lines were read, n is the next place, the next line is due at a stand, and reading stands at the other without it
 
@@ -120,7 +120,7 @@ follow-few l at m rest h = go (l .then)
     go : (t : Stand) → length (from t (none (stopped at t)) (λ next. after (recordsOf l) (rest next)) .records) ≤ 2 * suc m
     go (At next) = omega (arith, h next, few-records l, length-append (recordsOf l) (rest next .records))
     go Nothing = omega arith
-    go (Refused number place) = omega arith
+    go (Refused why) = omega arith
 
 rest-few : (m : ℕ) (g : Bool) (s : List ℕ) (at : ℕ) → length (restOf m g s at .records) ≤ 2 * m
 unfolding restOf
@@ -134,7 +134,7 @@ lines-few g s stand number = go (due stand (lineOn g s stand .then) number)
     go : (t : Stand) → length (from t (none t) (λ next. after (recordsOf (lineOn g s stand)) (restOf (length s) g s next)) .records) ≤ 2 * suc (length s)
     go (At next) = omega (arith, rest-few (length s) g s next, few-records (lineOn g s stand), length-append (recordsOf (lineOn g s stand)) (restOf (length s) g s next .records))
     go Nothing = omega arith
-    go (Refused number place) = omega arith
+    go (Refused why) = omega arith
 
 -- ---- the two lists of a page
 

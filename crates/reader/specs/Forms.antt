@@ -36,7 +36,7 @@ lineOf r twin stand = from stand (noLine stand) (λ next. record { first = r; tw
 abbrev pub orStand : {X : Type 0} → Stand → X → X → X
 orStand (At n) first second = first
 orStand Nothing first second = second
-orStand (Refused number place) first second = first
+orStand (Refused why) first second = first
 
 abbrev pub orLine : Line → Line → Line
 orLine first second = orStand (first .then) first second

@@ -6,7 +6,7 @@ use Prim.Native.Nat.{ℕ, zero, suc, _+_, _*_}
 use lib.Dec.{ltb}
 use lib.ListN.{length, drop}
 use Rattle.ground.specs.Words.{bytes}
-use Rattle.text.specs.Text.{from, runTo, wsOn, wordOn, byteOn, newlineOn}
+use Rattle.text.specs.Text.{from, refusedAt, runTo, wsOn, wordOn, byteOn, newlineOn}
 use Rattle.text.specs.declared.Stand.{Stand}
 use Rattle.text.specs.declared.Stand.the-variants.{At, Nothing, Refused}
 use Rattle.store.specs.Store.{room, written}
@@ -86,7 +86,7 @@ restOf (suc most) guesses s at = follow (lineOn guesses s (newlineOn s (At at)))
 
 -- something was due at a place, and is refused there by this number
 abbrev pub missed : Stand → ℕ → Stand
-missed before number = from before Nothing (λ place. Refused number place)
+missed before number = from before Nothing (λ place. refusedAt number place)
 
 -- something was due: where nothing was read, it is refused by this number at the place where it was due
 abbrev pub due : Stand → Stand → ℕ → Stand
@@ -126,6 +126,10 @@ problemOf s =
 
 -- ---- what is told, in docs/FORMAT.md's order
 
+-- a refusal by its number at a place
+abbrev pub refused : ℕ → ℕ → Reading
+refused number place = reading.Refused (record { number = number; place = place })
+
 -- the place of the first byte of 128 or more, or the text's end
 abbrev pub highAt : List ℕ → ℕ
 highAt s = runTo (λ b. ltb b 128) s 0
@@ -134,22 +138,22 @@ highAt s = runTo (λ b. ltb b 128) s 0
 -- due and text is left, then 11, then 12
 abbrev pub toldOf : Bool → ℕ → ℕ → ℕ → ℕ → ℕ → Reading
 toldOf whole size instructions guesses bytes end =
-    cond (whole && ltb end size) (reading.Refused 10 end)
-    (cond (ltb mostRecords (instructions + guesses)) (reading.Refused 11 0)
-    (cond (ltb bytes (recordBytes * (instructions + guesses))) (reading.Refused 12 0)
+    cond (whole && ltb end size) (refused 10 end)
+    (cond (ltb mostRecords (instructions + guesses)) (refused 11 0)
+    (cond (ltb bytes (recordBytes * (instructions + guesses))) (refused 12 0)
     (reading.Good instructions guesses end)))
 
 -- where reading stands in the end; it never ends with nothing read (`never-nothing` in proofs/Never)
 abbrev pub endedOf : Bool → List ℕ → Problem → ℕ → Stand → Reading
 endedOf whole s p bytes (At end) = toldOf whole (length s) (length (p .instructions)) (length (p .guesses)) bytes end
-endedOf whole s p bytes Nothing = reading.Refused 3 0
-endedOf whole s p bytes (Refused number place) = reading.Refused number place
+endedOf whole s p bytes Nothing = refused 3 0
+endedOf whole s p bytes (Refused why) = reading.Refused why
 
 -- 1, 2, then 3 to 9, then 10 to 12, for a buffer of so many bytes
 unfoldable pub readingOf : Bool → List ℕ → ℕ → Reading
 readingOf whole s bytes =
-    cond (ltb longestText (length s)) (reading.Refused 1 0)
-    (cond (ltb (highAt s) (length s)) (reading.Refused 2 (highAt s))
+    cond (ltb longestText (length s)) (refused 1 0)
+    (cond (ltb (highAt s) (length s)) (refused 2 (highAt s))
     (endedOf whole s (problemOf s) bytes (problemOf s .then)))
 
 -- ---- what is written
@@ -165,7 +169,7 @@ linesOf s = map (entryOf s) (recordsIn s)
 -- a good reading writes its records and leaves what lies past them; a refusal leaves the buffer as it was
 abbrev pub writtenBy : Reading → List Record → List ℕ → List ℕ
 writtenBy (reading.Good i g end) rs d = encodeAll rs ++ drop (recordBytes * length rs) d
-writtenBy (reading.Refused number place) rs d = d
+writtenBy (reading.Refused why) rs d = d
 
 unfoldable pub bufferAfter : Bool → List ℕ → List ℕ → List ℕ
 bufferAfter whole s d = writtenBy (readingOf whole s (length d)) (recordsIn s) d

@@ -4,6 +4,7 @@ mod page;
 
 ghost use mathlib.Core.Bool.{true, false};
 ghost use Rattle.reader.specs.Page.{Reads};
+use refusal::Refusal;
 
 // What reading a page tells: how many instructions and guesses its records are and where reading stopped, or a refusal.
 pub enum Reading {
@@ -12,10 +13,7 @@ pub enum Reading {
         guesses: usize,
         end: usize,
     },
-    Refused {
-        number: u8,
-        place: usize,
-    },
+    Refused(Refusal),
 }
 
 // Reads a page, which may leave text over, and writes its records.

@@ -4,12 +4,13 @@ ghost use Prim.Native.Nat.{_+_, _*_, _≤_, _<_};
 ghost use lib.ListN.{length};
 ghost use Rattle.record.specs.Kinds.{table};
 ghost use Rattle.reader.specs.Forms.{orStand};
-ghost use Rattle.reader.specs.Page.{component, recordsOf, lineOn, missed, due, headingOn, optNewlineOn, highAt, longestText, linesOn, Stored, StoredLines, Paged, Ended, Reads, toldOf, store};
+ghost use Rattle.reader.specs.Page.{component, recordsOf, lineOn, missed, due, headingOn, optNewlineOn, highAt, longestText, linesOn, Stored, StoredLines, Paged, Ended, Reads, refused, toldOf, store};
 use crate::Reading;
 use crate::forms;
 use crate::forms::Line;
 use record::Record;
 use record::kinds::KINDS;
+use refusal::Refusal;
 use text::Stand;
 
 // The most bytes of a text, and the most records of a page.
@@ -106,7 +107,7 @@ fn missing(stand: Stand, number: u8) -> Stand
     let Stand::At(place) = stand else {
         return Stand::Nothing;
     };
-    Stand::Refused { number, place }
+    Stand::Refused(Refusal { number, place })
 }
 
 // What was due and was not read is refused, by a number, at the place where it was due.
@@ -239,6 +240,13 @@ fn high_at(text: &[u8]) -> usize
     i
 }
 
+// A refusal by its number at a place.
+fn refused(number: u8, place: usize) -> Reading
+    ensures { λ r. ⌜ r ≡ refused number place ⌝ }
+{
+    Reading::Refused(Refusal { number, place })
+}
+
 // What is told of a page that was read to a place.
 fn tell(text: &[u8], page: Page, whole: bool, bytes: usize, end: usize) -> Reading
     requires { ⌜ (page .instructions ≤ 100000) × (page .guesses ≤ 100000) ⌝ }
@@ -246,22 +254,13 @@ fn tell(text: &[u8], page: Page, whole: bool, bytes: usize, end: usize) -> Readi
 {
     let count = page.instructions + page.guesses;
     if whole & (end < text.len()) {
-        return Reading::Refused {
-            number: 10,
-            place: end,
-        };
+        return refused(10, end);
     }
     if MOST_RECORDS < count {
-        return Reading::Refused {
-            number: 11,
-            place: 0,
-        };
+        return refused(11, 0);
     }
     if bytes < record::SIZE * count {
-        return Reading::Refused {
-            number: 12,
-            place: 0,
-        };
+        return refused(12, 0);
     }
     Reading::Good {
         instructions: page.instructions,
@@ -301,11 +300,8 @@ fn read_into(text: &[u8], records: &mut [u8], whole: bool) -> Reading
             store::put(records, 0, &own[..n]);
             told
         }
-        Stand::Nothing => Reading::Refused {
-            number: 3,
-            place: 0,
-        },
-        Stand::Refused { number, place } => Reading::Refused { number, place },
+        Stand::Nothing => refused(3, 0),
+        Stand::Refused(why) => Reading::Refused(why),
     }
 }
 
@@ -314,17 +310,11 @@ pub(crate) fn read(text: &[u8], records: &mut [u8], whole: bool) -> Reading
     ensures { λ r. ⌜ Reads whole (now (text .entry)) (now (records .entry)) r (now (records .exit)) ⌝ }
 {
     if LONGEST_TEXT < text.len() {
-        return Reading::Refused {
-            number: 1,
-            place: 0,
-        };
+        return refused(1, 0);
     }
     let high = high_at(text);
     if high < text.len() {
-        return Reading::Refused {
-            number: 2,
-            place: high,
-        };
+        return refused(2, high);
     }
     read_into(text, records, whole)
 }

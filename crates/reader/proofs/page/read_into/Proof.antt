@@ -22,7 +22,7 @@ returns c =
     let tell = c .before .before .tell in
     let end = c .before .before .before .before .then .given in
     let refused = c .enum-told .given in
-    refused-late (a .whole) (a .text .now) (a .records .now) (zeros .result) (p .last .1 .0) (p .result .instructions) (p .result .guesses) (p .result .then) (p .ensures) (end .0 .0) (tell .result) (end .1) (tell .ensures) (refused .0 .0) (refused .0 .1 .0) (refused .1)
+    refused-late (a .whole) (a .text .now) (a .records .now) (zeros .result) (p .last .1 .0) (p .result .instructions) (p .result .guesses) (p .result .then) (p .ensures) (end .0 .0) (tell .result) (end .1) (tell .ensures) (refused .0 .0) (refused .1)
 
 add-n : tie.Need-add-n
 add-n c =
@@ -76,10 +76,11 @@ returns-2 c =
 
 returns-3 : tie.Need-returns-3
 returns-3 c =
-    let a = c .before .before .before .before .before .before .before .before .before .args in
-    let p = c .before .before .before .read-page in
-    let zeros = c .before .before .before .before .before .before .room in
-    nothing-left (a .whole) (a .text .now) (a .records .now) (zeros .result) (p .last .1 .0) (p .result .instructions) (p .result .guesses) (p .result .then) (p .ensures) (c .enum-told2 .given .1)
+    let a = c .before .before .before .before .before .before .before .before .before .before .args in
+    let p = c .before .before .before .before .read-page in
+    let zeros = c .before .before .before .before .before .before .before .room in
+    rw (c .refused .ensures)
+    (nothing-left (a .whole) (a .text .now) (a .records .now) (zeros .result) (p .last .1 .0) (p .result .instructions) (p .result .guesses) (p .result .then) (p .ensures) (c .before .enum-told2 .given .1))
 
 returns-4 : tie.Need-returns-4
 returns-4 c =
@@ -87,7 +88,7 @@ returns-4 c =
     let p = c .before .before .before .before .read-page in
     let zeros = c .before .before .before .before .before .before .before .room in
     let refused = c .before .then2 .given in
-    handed-on (a .whole) (a .text .now) (a .records .now) (zeros .result) (p .last .1 .0) (p .result .instructions) (p .result .guesses) (p .result .then) (p .ensures) (refused .0 .0) (refused .0 .1 .0) (refused .1)
+    handed-on (a .whole) (a .text .now) (a .records .now) (zeros .result) (p .last .1 .0) (p .result .instructions) (p .result .guesses) (p .result .then) (p .ensures) (refused .0 .0) (refused .1)
 
 pub read-into-spec : {M : Type 1} → statement M
-read-into-spec = tie.close (tie.spec (λ c κs. search needs) (λ c. search needs) (λ c κs. search needs) (λ c. search needs) tell-requires (λ c. search needs) (λ c. search needs) returns add-n mul-n array-share-prefix-own slice-aggregate-put (λ c κs. search needs) (λ c. search needs) (λ c. search needs) (λ c. search needs) returns-2 returns-3 returns-4)
+read-into-spec = tie.close (tie.spec (λ c κs. search needs) (λ c. search needs) (λ c κs. search needs) (λ c. search needs) tell-requires (λ c. search needs) (λ c. search needs) returns add-n mul-n array-share-prefix-own slice-aggregate-put (λ c κs. search needs) (λ c. search needs) (λ c κs. search needs) (λ c. search needs) (λ c. search needs) returns-2 returns-3 returns-4)
