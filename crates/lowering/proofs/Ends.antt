@@ -13,8 +13,10 @@ use Rattle.refusal.specs.First.{Answer, passed, refused}
 use Rattle.layout.specs.declared.Layout.{Layout}
 use Rattle.layout.specs.Refusals.{idsEnd}
 use Rattle.layout.specs.Push.{onward}
+use Rattle.record.specs.Record.{mostRecords}
+use Rattle.record.specs.Kinds.{firstRule, lastRule}
 use Rattle.record.specs.Entry.{Entry}
-use Rattle.record.specs.Formed.{WellFormed, most, entries}
+use Rattle.record.specs.Formed.{WellFormed, entries}
 use Rattle.record.proofs.Entries.{whole-length}
 use Rattle.record.proofs.Told.{passed-iff}
 use Rattle.record.proofs.WellFormed.{well-formed-iff}
@@ -119,10 +121,10 @@ lacking-ends es next ids values rows P C A R k e told some =
 
 -- the counts are small
 pub record Few (P C A R : ℕ) : Type 0 where
-  pub points : P ≤ most
-  pub circles : C ≤ most
-  pub arcs : A ≤ most
-  pub rules : R ≤ most
+  pub points : P ≤ mostRecords
+  pub circles : C ≤ mostRecords
+  pub arcs : A ≤ mostRecords
+  pub rules : R ≤ mostRecords
 
 module _ (text bs : List ℕ) (P C A R : ℕ) (told : checkedOf (entries text bs) ≡ checked.Passed P C A R) where
   well-formed : WellFormed text bs
@@ -134,15 +136,15 @@ module _ (text bs : List ℕ) (P C A R : ℕ) (told : checkedOf (entries text bs
   pub drawn-are : entries text bs ≡ drawn text bs
   drawn-are = entries-drawn text bs well-formed
 
-  short : length (entries text bs) ≤ most
+  short : length (entries text bs) ≤ mostRecords
   short = let f = well-formed in omega (arith, whole-length text bs (f .short) (f .few) (f .whole), f .few)
 
   pub few-counted : Few P C A R
   few-counted =
       let es = entries text bs in
       let p = passed-with es P C A R told in
-      let below : (low high : ℕ) → countBelow (kindNo es) low high (length es) ≤ most = λ low high. omega (arith, short, count-le (kindNo es) low high (length es)) in
-      record { points = omega (arith, p .points, below 1 1); circles = omega (arith, p .circles, below 2 2); arcs = omega (arith, p .arcs, below 3 3); rules = omega (arith, p .rules, below 4 23) }
+      let below : (low high : ℕ) → countBelow (kindNo es) low high (length es) ≤ mostRecords = λ low high. omega (arith, short, count-le (kindNo es) low high (length es)) in
+      record { points = omega (arith, p .points, below 1 1); circles = omega (arith, p .circles, below 2 2); arcs = omega (arith, p .arcs, below 3 3); rules = omega (arith, p .rules, below firstRule lastRule) }
 
   module _ (next : ℕ) (ids : List ℕ) (values : List Float) (rows : List ℕ) (nothing : lackTold (roomIn next ids values rows) (P * 2 + C * 3 + A * 6) R ≡ 0) where
     passing : Passing (entries text bs) next ids values rows

@@ -12,8 +12,9 @@ use Rattle.layout.specs.declared.Stage.the-variants.{Done}
 use Rattle.layout.specs.declared.Kind.{Kind}
 use Rattle.layout.specs.declared.Kind.the-variants as K
 use Rattle.layout.specs.Slots.{sizeOf, slotOf}
+use Rattle.record.specs.Kinds.{pairGuess, numberGuess}
 use Rattle.record.specs.Entry.{Label, Entry, entryAt, labelNo}
-use Rattle.drawing.specs.Needs.{Shape, point, circle, arc, declaring, pairGuess, numberGuess, Part, parts}
+use Rattle.drawing.specs.Needs.{Shape, point, circle, arc, declaring, Part, parts}
 use Rattle.index.specs.Labels.{kindNo, labelled, lowestOr}
 use Rattle.drawing.specs.Check.{countBelow}
 

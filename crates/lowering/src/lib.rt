@@ -5,7 +5,8 @@ mod spans;
 
 ghost use mathlib.Core.Path.{_≡_};
 ghost use Prim.Native.Nat.{_+_, _*_, _≤_};
-ghost use Rattle.record.specs.Formed.{most, entries};
+ghost use Rattle.record.specs.Record.{mostRecords};
+ghost use Rattle.record.specs.Formed.{entries};
 ghost use Rattle.index.specs.Labels.{drawn};
 ghost use Rattle.lowering.specs.Lower.{Lowers, roomBy};
 ghost use Rattle.lowering.specs.Steps.{Passing, Filled, lackTold};
@@ -34,7 +35,7 @@ pub enum Lowered {
 
 // How many slots so many shapes have.
 fn slots_of(points: usize, circles: usize, arcs: usize) -> usize
-    requires { ⌜ (points ≤ most) × (circles ≤ most) × (arcs ≤ most) ⌝ }
+    requires { ⌜ (points ≤ mostRecords) × (circles ≤ mostRecords) × (arcs ≤ mostRecords) ⌝ }
     ensures { λ r. ⌜ r ≡ points * 2 + circles * 3 + arcs * 6 ⌝ }
 {
     points * 2 + circles * 3 + arcs * 6
