@@ -12,9 +12,12 @@ use lib.Seq.{drop-cons}
 use Rattle.refusal.specs.First.{passed, refused, tell, first, lowest, orElse}
 use Rattle.refusal.proofs.Search.{none-iff}
 use Rattle.record.specs.declared.formed.Formed.the-variants as formed
+use Rattle.record.specs.Record.{mostRecords}
+use Rattle.record.specs.Kinds.{newPoint, newCircle, newArc, firstRule, lastRule, pairGuess, numberGuess}
 use Rattle.record.specs.Decode.{countOf, decodeAt}
 use Rattle.record.specs.Entry.{Entry, noEntry}
-use Rattle.record.specs.Formed.{most, WellFormed, entries, Malformed, places, malformedTest, verdict, formedOf}
+use Rattle.refusal.specs.declared.Refusal.{Refusal}
+use Rattle.record.specs.Formed.{WellFormed, entries, Malformed, places, malformedTest, verdict, formedOf, malformedAt}
 use Rattle.record.proofs.Told.{says-malformed, passed-iff}
 use Rattle.record.proofs.WellFormed.{well-formed-iff}
 use Rattle.index.specs.Labels.{drawn, kindNo, within, lowestOr}
@@ -50,7 +53,7 @@ ends t n f h = rw (drop-of-length-le behind30 h) refl
 -- ---- the tests and numbers by their places in the order
 
 module _ (es : List Entry) (f i : ℕ) where
-  pub test-0 : f ≡ 0 → twice es 1 3 i ≡ test es (faultAt f) i
+  pub test-0 : f ≡ 0 → twice es newPoint newArc i ≡ test es (faultAt f) i
   test-0 e = rw e refl
 
   pub test-1 : f ≡ 1 → wrongLabelTest es i ≡ test es (faultAt f) i
@@ -59,7 +62,7 @@ module _ (es : List Entry) (f i : ℕ) where
   pub test-2 : f ≡ 2 → noSuchPartTest es i ≡ test es (faultAt f) i
   test-2 e = rw e refl
 
-  pub test-3 : f ≡ 3 → twice es 24 25 i ≡ test es (faultAt f) i
+  pub test-3 : f ≡ 3 → twice es pairGuess numberGuess i ≡ test es (faultAt f) i
   test-3 e = rw e refl
 
   pub test-4 : f ≡ 4 → withoutGuessTest es i ≡ test es (faultAt f) i
@@ -106,20 +109,22 @@ module _ (es : List Entry) where
   shorter : first behind30 (test es) (suc (length es)) ≡ first behind30 (test es) (length es)
   unfolding first
   shorter =
-      rw (lowest-last (length es) (twice es 1 3) (twice-end 1 3 refl), lowest-last (length es) (wrongLabelTest es) wrong-label-end, lowest-last (length es) (noSuchPartTest es) no-such-part-end, lowest-last (length es) (twice es 24 25) (twice-end 24 25 refl), lowest-last (length es) (withoutGuessTest es) without-guess-end) refl
+      rw (lowest-last (length es) (twice es newPoint newArc) (twice-end newPoint newArc refl), lowest-last (length es) (wrongLabelTest es) wrong-label-end, lowest-last (length es) (noSuchPartTest es) no-such-part-end, lowest-last (length es) (twice es pairGuess numberGuess) (twice-end pairGuess numberGuess refl), lowest-last (length es) (withoutGuessTest es) without-guess-end) refl
 
 -- ---- 30
 
 -- what is told of a list that is not well formed is told by the check
-pub told-30 : (es : List Entry) (number place : ℕ) → formedOf es ≡ formed.Refused number place → checked.Refused number place ≡ checkedOf es
+pub told-30 : (es : List Entry) (r : Refusal) → formedOf es ≡ formed.Refused r → checked.Refused (r .number) (r .place) ≡ checkedOf es
 unfolding checkedOf checkOf first formedOf
-told-30 es number place e = go (lowest (places es) (malformedTest es)) e
+told-30 es r e = go (lowest (places es) (malformedTest es)) e
   where
-    go : (o : Option ℕ) → verdict o ≡ formed.Refused number place → checked.Refused number place ≡ answer es (tell malformed o (first behind30 (test es) (places es)))
-    go (some j) q = cc
+    go : (o : Option ℕ) → verdict o ≡ formed.Refused r → checked.Refused (r .number) (r .place) ≡ answer es (tell malformed o (first behind30 (test es) (places es)))
+    go (some j) q =
+        let m : malformedAt j ≡ r = cc in
+        rw (← m) refl
     go none q = absurd (never q)
       where
-        never : formed.WellFormed ≡ formed.Refused number place → ⊥
+        never : formed.WellFormed ≡ formed.Refused r → ⊥
         never r = let z : _≡_ {A = ℕ} 0 1 = cc in omega arith
 
 module _ (text bs : List ℕ) (w : WellFormed text bs) where
@@ -136,10 +141,10 @@ module _ (text bs : List ℕ) (w : WellFormed text bs) where
       ∙ ap (first behind30 (test es)) (drawn-length text bs)
 
   -- the chains of a kind from low to high, made in tables of the lengths that the check has
-  pub chained : {low high : ℕ} {hs ns hs′ ns′ : List ℕ} {answer : Bool} → Made (drawn text bs) low high hs ns answer hs′ ns′ → length hs ≡ chains → length ns ≡ most
+  pub chained : {low high : ℕ} {hs ns hs′ ns′ : List ℕ} {answer : Bool} → Made (drawn text bs) low high hs ns answer hs′ ns′ → length hs ≡ chains → length ns ≡ mostRecords
       → Chained (drawn text bs) low high hs′ ns′
   chained {hs = hs} {ns = ns} m eh en =
-      let n : length (drawn text bs) ≤ most = omega (arith, w .few, drawn-length text bs) in
+      let n : length (drawn text bs) ≤ mostRecords = omega (arith, w .few, drawn-length text bs) in
       made-chained m (m .told ∙ room-so (length (drawn text bs)) (length hs) (length ns) (omega arith) eh (omega arith))
 
   -- a fault behind 30 that is told
@@ -156,10 +161,10 @@ module _ (text bs : List ℕ) (w : WellFormed text bs) where
 
   -- nothing that is told
   pub told-none : (p c a r : ℕ) → checkOf (drawn text bs) ≡ passed
-      → p ≡ countBelow (λ i. decodeAt bs i .kind) 1 1 (countOf bs)
-      → c ≡ countBelow (λ i. decodeAt bs i .kind) 2 2 (countOf bs)
-      → a ≡ countBelow (λ i. decodeAt bs i .kind) 3 3 (countOf bs)
-      → r ≡ countBelow (λ i. decodeAt bs i .kind) 4 23 (countOf bs)
+      → p ≡ countBelow (λ i. decodeAt bs i .kind) newPoint newPoint (countOf bs)
+      → c ≡ countBelow (λ i. decodeAt bs i .kind) newCircle newCircle (countOf bs)
+      → a ≡ countBelow (λ i. decodeAt bs i .kind) newArc newArc (countOf bs)
+      → r ≡ countBelow (λ i. decodeAt bs i .kind) firstRule lastRule (countOf bs)
       → checked.Passed p c a r ≡ checkedOf (entries text bs)
   unfolding checkedOf
-  told-none p c a r e ep ec ea er = rw (entries-drawn text bs w, e, count-is 1 1 p ep, count-is 2 2 c ec, count-is 3 3 a ea, count-is 4 23 r er) refl
+  told-none p c a r e ep ec ea er = rw (entries-drawn text bs w, e, count-is newPoint newPoint p ep, count-is newCircle newCircle c ec, count-is newArc newArc a ea, count-is firstRule lastRule r er) refl

@@ -6,6 +6,7 @@ use Prim.Native.Nat.{ℕ, _-_}
 use native.Mathlib.Omega.{arith}
 use lib.ListN.{getD}
 use Rattle.refusal.specs.First.{Answer, passed, refused, Nowhere, Told}
+use Rattle.record.specs.Kinds.{newPoint, newCircle, newArc, firstRule, lastRule}
 use Rattle.record.specs.Entry.{Entry}
 use Rattle.record.specs.Formed.{places}
 use Rattle.drawing.specs.declared.Checked.the-variants as checked
@@ -51,7 +52,7 @@ module _ (es : List Entry) where
       (λ e. t .0 (refused-of (checkOf es) f i e), λ w. ap (answer es) (t .1 w))
 
   -- a drawing passes, with its counts, exactly if no fault holds anywhere
-  pub passed-iff : (checkedOf es ≡ checked.Passed (countOf es 1 1) (countOf es 2 2) (countOf es 3 3) (countOf es 4 23)) ↔ ((f : Fault) → Nowhere (Holds es f) (places es))
+  pub passed-iff : (checkedOf es ≡ checked.Passed (countOf es newPoint newPoint) (countOf es newCircle newCircle) (countOf es newArc newArc) (countOf es firstRule lastRule)) ↔ ((f : Fault) → Nowhere (Holds es f) (places es))
   unfolding checkedOf
   passed-iff =
       let t = check-passes es in

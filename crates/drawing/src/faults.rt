@@ -2,29 +2,29 @@
 ghost use mathlib.Core.Path.{_≡_};
 ghost use Prim.Native.Nat.{_<_};
 ghost use Rattle.refusal.specs.First.{anyBelow};
-ghost use Rattle.record.specs.Kinds.{kindAt, rows, table};
+ghost use Rattle.record.specs.Kinds.{kindAt, rows, table, Rule, newPoint, newArc, pairGuess, numberGuess};
 ghost use Rattle.record.specs.Decode.{countOf as records-in, decodeAt};
 ghost use Rattle.index.specs.Labels.{drawn, lowestOr};
 ghost use Rattle.index.specs.Chains.{Chained};
 ghost use Rattle.drawing.specs.Needs.{codeAt};
-ghost use Rattle.drawing.specs.Faults.{Rule, faultAt};
+ghost use Rattle.drawing.specs.Faults.{faultAt};
 ghost use Rattle.drawing.specs.Check.{wrongPlace, wrongLabelTest, noSuchPartTest, withoutGuessTest, test};
 ghost use Rattle.drawing.specs.Tables.{Tables};
-use crate::kinds::FIRST_RULE;
-use crate::kinds::LAST_RULE;
-use crate::kinds::NEW_ARC;
-use crate::kinds::NEW_CIRCLE;
-use crate::kinds::NEW_POINT;
-use crate::kinds::NUMBER_GUESS;
-use crate::kinds::PAIR_GUESS;
 use crate::search::guessed;
 use crate::search::meets;
 use crate::search::twice;
 use index::labels::kind_at;
 use index::labels::label_at;
 use record::SIZE;
+use record::kinds::FIRST_RULE;
 use record::kinds::LABELS;
+use record::kinds::LAST_RULE;
 use record::kinds::NEEDS;
+use record::kinds::NEW_ARC;
+use record::kinds::NEW_CIRCLE;
+use record::kinds::NEW_POINT;
+use record::kinds::NUMBER_GUESS;
+use record::kinds::PAIR_GUESS;
 use record::kinds::look;
 
 // The code of label place q of a kind.
@@ -45,7 +45,7 @@ fn any_wrong(
     kind: u8,
     i: usize,
 ) -> bool
-    requires { ⌜ (now kinds ≡ table) × Chained (drawn (now text) (now records)) 1 3 (now heads) (now nexts) × Rule kind × (kind ≡ decodeAt (now records) i .kind) ⌝ }
+    requires { ⌜ (now kinds ≡ table) × Chained (drawn (now text) (now records)) newPoint newArc (now heads) (now nexts) × Rule kind × (kind ≡ decodeAt (now records) i .kind) ⌝ }
     ensures { λ r. ⌜ r ≡ anyBelow (kindAt kind .labels) (wrongPlace (drawn (now (text .entry)) (now (records .entry))) i) ⌝ }
 {
     let n = look(kinds, kind, LABELS) as usize;
@@ -70,7 +70,7 @@ fn wrong_label(
     nexts: &[u16],
     i: usize,
 ) -> bool
-    requires { ⌜ (now kinds ≡ table) × Chained (drawn (now text) (now records)) 1 3 (now heads) (now nexts) ⌝ }
+    requires { ⌜ (now kinds ≡ table) × Chained (drawn (now text) (now records)) newPoint newArc (now heads) (now nexts) ⌝ }
     ensures { λ r. ⌜ r ≡ wrongLabelTest (drawn (now (text .entry)) (now (records .entry))) i ⌝ }
 {
     let kind = kind_at(records, i);
@@ -89,7 +89,7 @@ fn no_such_part(
     nexts: &[u16],
     i: usize,
 ) -> bool
-    requires { ⌜ (now kinds ≡ table) × Chained (drawn (now text) (now records)) 1 3 (now heads) (now nexts) ⌝ }
+    requires { ⌜ (now kinds ≡ table) × Chained (drawn (now text) (now records)) newPoint newArc (now heads) (now nexts) ⌝ }
     ensures { λ r. ⌜ r ≡ noSuchPartTest (drawn (now (text .entry)) (now (records .entry))) i ⌝ }
 {
     let kind = kind_at(records, i);
@@ -103,7 +103,7 @@ fn no_such_part(
 
 // 35 at record i.
 fn without_guess(text: &[u8], records: &[u8], heads: &[u16], nexts: &[u16], i: usize) -> bool
-    requires { ⌜ Chained (drawn (now text) (now records)) 24 25 (now heads) (now nexts) ⌝ }
+    requires { ⌜ Chained (drawn (now text) (now records)) pairGuess numberGuess (now heads) (now nexts) ⌝ }
     ensures { λ r. ⌜ r ≡ withoutGuessTest (drawn (now (text .entry)) (now (records .entry))) i ⌝ }
 {
     let kind = kind_at(records, i);

@@ -1,6 +1,5 @@
 // The added check of a drawing: 30, then 31 to 35.
 mod faults;
-pub mod kinds;
 mod search;
 
 ghost use mathlib.Core.Path.{_≡_};
@@ -14,18 +13,18 @@ use faults::lowest_bad;
 use index::HEADS;
 use index::chain;
 use index::labels::kind_at;
-use kinds::FIRST_RULE;
-use kinds::LAST_RULE;
-use kinds::NEW_ARC;
-use kinds::NEW_CIRCLE;
-use kinds::NEW_POINT;
-use kinds::NUMBER_GUESS;
-use kinds::PAIR_GUESS;
+use record::MOST;
 use record::SIZE;
 use record::formed::Formed;
-use record::formed::MOST;
 use record::formed::well_formed;
+use record::kinds::FIRST_RULE;
 use record::kinds::KINDS;
+use record::kinds::LAST_RULE;
+use record::kinds::NEW_ARC;
+use record::kinds::NEW_CIRCLE;
+use record::kinds::NEW_POINT;
+use record::kinds::NUMBER_GUESS;
+use record::kinds::PAIR_GUESS;
 
 // The faults behind 30, and the number of the first of them.
 const FAULTS: usize = 5;
@@ -114,8 +113,11 @@ fn check_by(
 pub fn check(text: &[u8], records: &[u8]) -> Checked
     ensures { λ r. ⌜ r ≡ checkedOf (entries (now (text .entry)) (now (records .entry))) ⌝ }
 {
-    if let Formed::Refused { number, place } = well_formed(text, records) {
-        return Checked::Refused { number, place };
+    if let Formed::Refused(r) = well_formed(text, records) {
+        return Checked::Refused {
+            number: r.number,
+            place: r.place,
+        };
     }
     let kinds = KINDS;
     let mut heads = [0u16; HEADS];

@@ -12,12 +12,12 @@ use Rattle.record.specs.Record.{le64, encode}
 use Rattle.record.specs.Decode.{byte, u64, decode, Short, Absent, Fits}
 use Rattle.record.specs.Entry.{upTo}
 use Rattle.record.proofs.Back.{decode-encode}
-use Rattle.lowering.specs.Slots.{flat}
-use Rattle.lowering.specs.Rows.{Row, rowMark, rowBytes, mostIds, le32, eight, encodeRow}
-use Rattle.lowering.specs.Demand.{rowNo}
-use Rattle.lowering.proofs.Lists.{each-of, length-flat}
-use Rattle.lowering.proofs.Bytes.{length-eight, id-read}
-use Rattle.lines.specs.Drawn.{idAt, idsIn, decodeRow, rowOf, rowLine}
+use Rattle.ground.specs.Lists.{flat}
+use Rattle.row.specs.Row.{Row, rowMark, rowBytes, mostIds, eight, encodeRow, rowNo, idAt, idsIn, decodeRow, rowOf}
+use Rattle.bytes.specs.Little.{le32}
+use Rattle.ground.proofs.Pieces.{each-of, length-flat}
+use Rattle.row.proofs.Back.{length-eight, id-read}
+use Rattle.lines.specs.Drawn.{rowLine}
 
 -- each part of a row fits its bytes
 pub record RowFits (r : Row) : Type 0 where

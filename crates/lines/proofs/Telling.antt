@@ -12,10 +12,12 @@ use Rattle.print.specs.Print.{decimalOf, hexOf}
 use Rattle.record.specs.Decode.{byte, u64}
 use Rattle.record.specs.Kinds.{kindAt}
 use Rattle.record.specs.Entry.{upTo}
-use Rattle.lowering.specs.Rows.{rowBytes, mostIds}
-use Rattle.lines.specs.Lines.{newline, spaced, thirdOf, numbersOf, lineOf}
-use Rattle.lines.specs.Drawn.{tallyLine, slotLine, idAt, idsIn, decodeRow, rowOf, rowLine}
-use Rattle.lines.proofs.Spaced.{spaced-append, two-parts, line-parts}
+use Rattle.row.specs.Row.{rowBytes, mostIds, idAt, idsIn, decodeRow, rowOf}
+use Rattle.rail.specs.Words.{newline, spaced}
+use Rattle.lines.specs.Lines.{thirdOf, numbersOf, lineOf}
+use Rattle.lines.specs.Drawn.{tallyLine, slotLine, rowLine}
+use Rattle.rail.proofs.Spaced.{spaced-append}
+use Rattle.lines.proofs.Spaced.{two-parts, line-parts}
 
 -- ---- lines
 

@@ -14,9 +14,10 @@ use Rattle.drawing.specs.declared.Checked.{Checked}
 use Rattle.drawing.specs.declared.Checked.the-variants as C
 use Rattle.lowering.specs.declared.Lowered.{Lowered}
 use Rattle.lowering.specs.declared.Lowered.the-variants as L
-use Rattle.lowering.specs.Rows.{Row, rowBytes, mostIds}
-use Rattle.lowering.specs.Demand.{u32, rowNo}
-use Rattle.lines.specs.Lines.{lineWith, refusedLine, lineOf}
+use Rattle.row.specs.Row.{Row, rowBytes, mostIds, rowNo}
+use Rattle.bytes.specs.Little.{u32}
+use Rattle.rail.specs.Words.{lineWith}
+use Rattle.lines.specs.Lines.{refusedLine, lineOf}
 
 -- ---- the first line
 

@@ -6,16 +6,15 @@ ghost use lib.ListN.{length};
 ghost use Rattle.print.specs.Print.{decimalOf};
 ghost use Rattle.record.specs.Decode.{byte, u64};
 ghost use Rattle.record.specs.Entry.{upTo};
-ghost use Rattle.lowering.specs.Demand.{u32};
-ghost use Rattle.lowering.specs.Rows.{rowBytes, mostIds};
-ghost use Rattle.lines.specs.Lines.{spaced};
-ghost use Rattle.lines.specs.Drawn.{tallyLine, checkedLine, loweredLine, slotLine, Wide, idAt, idsIn, decodeRow, rowLine};
-ghost use Rattle.lines.specs.Rail.{Adds};
-use super::Place;
-use super::rail;
+ghost use Rattle.bytes.specs.Little.{u32};
+ghost use Rattle.row.specs.Row.{rowBytes, mostIds, idAt, idsIn, decodeRow};
+ghost use Rattle.rail.specs.Words.{spaced};
+ghost use Rattle.lines.specs.Drawn.{tallyLine, checkedLine, loweredLine, slotLine, Wide, rowLine};
+ghost use Rattle.rail.specs.Steps.{Adds};
 use super::words;
 use drawing::Checked;
 use lowering::Lowered;
+use rail::Place;
 
 // The most ids of a row.
 const MOST: usize = 8;

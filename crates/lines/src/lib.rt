@@ -1,7 +1,6 @@
 // The lines that programs print, written into a lent buffer where writing stands: those of a listing, of a check and of a lowering.
 // With `write` false a line is measured alone.
 mod drawn;
-mod rail;
 mod words;
 
 ghost use mathlib.Core.Path.{_≡_};
@@ -9,19 +8,14 @@ ghost use lib.ListN.{length};
 ghost use Rattle.record.specs.Decode.{decodeAt};
 ghost use Rattle.record.specs.Entry.{entryOf};
 ghost use Rattle.lines.specs.Lines.{firstLine, lineOf};
-ghost use Rattle.lowering.specs.Rows.{rowBytes};
-ghost use Rattle.lines.specs.Drawn.{checkedLine, loweredLine, slotLine, decodeRow, rowOf, rowLine};
-ghost use Rattle.lines.specs.Rail.{Prints};
+ghost use Rattle.row.specs.Row.{rowBytes, decodeRow, rowOf};
+ghost use Rattle.lines.specs.Drawn.{checkedLine, loweredLine, slotLine, rowLine};
+ghost use Rattle.rail.specs.Rail.{Prints};
 use drawing::Checked;
 use lowering::Lowered;
-use lowering::ROW;
+use row::ROW;
+use rail::Place;
 use reader::Reading;
-
-// Where writing stands: the place of the next byte, or full, where there was no room.
-pub enum Place {
-    At(usize),
-    Full,
-}
 
 // Writes the first line of a listing, which tells what a reading gave; where it has no room, the buffer stays as it was.
 pub fn first_line(reading: Reading, buf: &mut [u8], write: bool, p: Place) -> Place

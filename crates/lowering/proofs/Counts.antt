@@ -19,7 +19,7 @@ use Rattle.drawing.specs.Check.{countBelow}
 use Rattle.lowering.specs.Slots.{slotsOfShape, labelsOf, slotsOf, slots, size, before, howMany, layoutOf}
 use Rattle.lowering.specs.Rows.{rulesOf}
 use Rattle.lowering.specs.Demand.{Declares, rulesBefore}
-use Rattle.lowering.proofs.Lists.{each-of, length-flat, Picks, picks-suc, picks-around}
+use Rattle.ground.proofs.Pieces.{each-of, length-flat, Picks, picks-suc, picks-around}
 
 -- ---- what is picked
 

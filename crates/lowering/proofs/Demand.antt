@@ -26,7 +26,8 @@ use Rattle.drawing.specs.Needs.{point, circle, arc}
 use Rattle.lowering.specs.declared.Lowered.{Lowered}
 use Rattle.lowering.specs.declared.Lowered.the-variants as L
 use Rattle.lowering.specs.Slots.{slots, howMany, firstSlot, valuesOf}
-use Rattle.lowering.specs.Rows.{rulesOf, rowsOf, encodeRows}
+use Rattle.row.specs.Row.{encodeRows}
+use Rattle.lowering.specs.Rows.{rulesOf, rowsOf}
 use Rattle.lowering.specs.Lower.{lowerOf, unless, onto, roomIn, Lowers}
 use Rattle.lowering.specs.Demand.{rulesBefore, CannotGoWrong, PassedLowersWell}
 use Rattle.lowering.proofs.Lacking.{lower-good}
@@ -94,7 +95,7 @@ module _ (es : List Entry) (w : Fine es) (few : length es ≤ layout.mostShapes)
         looked-up es few (onto ids (onward next (length (slots es)))) long i s k t (next + (firstSlot s es i + k)) c (written-id (firstSlot s es i + k) (slot-of es w i s k (c .declared) (c .one-of-it) .0));
     starts = λ j h. rw (written-value j h, value-at es j h) (starts es w j h);
     row-count = refl;
-    one-row = λ i h u. (omega (arith, rule-inside es i h u, rules-all es), row-of es w next i h u left (drop (length (encodeRows (rowsOf es next))) rows));
+    one-row = λ i h u. (omega (arith, rule-inside es i h u, rules-all es), row-of es next i h u w left (drop (length (encodeRows (rowsOf es next))) rows));
     read-out = read-out es w few;
   }
 

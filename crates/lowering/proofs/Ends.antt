@@ -26,7 +26,8 @@ use Rattle.drawing.specs.Check.{countBelow, answer, checkOf, checkedOf}
 use Rattle.drawing.proofs.Agree.{check-passes}
 use Rattle.lowering.specs.declared.Lowered.the-variants as L
 use Rattle.lowering.specs.Slots.{slots, layoutOf, valuesOf}
-use Rattle.lowering.specs.Rows.{rulesOf, rowBytes, rowsOf, encodeRows}
+use Rattle.row.specs.Row.{rowBytes, encodeRows}
+use Rattle.lowering.specs.Rows.{rulesOf, rowsOf}
 use Rattle.lowering.specs.Lower.{Room, Lack, few-ids, short-slices, short-rows, lackNumber, lacking, lackOf, lowerOf, onto, roomIn, Lowers}
 use Rattle.lowering.specs.Demand.{EnoughFor}
 use Rattle.lowering.specs.Steps.{Passing, Filled, lackTold}

@@ -17,7 +17,8 @@ use check.{twice, namedAt, named, guessAt, guessed, wrongPlace, wrongLabelTest, 
 use Rattle.lowering.specs.declared.Lowered.{Lowered}
 use Rattle.lowering.specs.declared.Lowered.the-variants.{Good, Refused}
 use Rattle.lowering.specs.Slots.{Slot, slots, guessOf, numberFor}
-use Rattle.lowering.specs.Rows.{Row, namedIds, rowsOf, encodeRow}
+use Rattle.row.specs.Row.{Row, bytesOf, encodeRow}
+use Rattle.lowering.specs.Rows.{namedIds, rowsOf}
 use Rattle.lowering.specs.Lower.{Room, lackOf, lowerOf}
 
 -- ---- entries
@@ -99,5 +100,5 @@ pub examples : (rowsOf plate 100 ≡ rows)
     × (encodeRow (row 4 2 (110 ∷ []) 92) ≡ written)
     × (numbers plate ≡ 0 ∷ 1 ∷ 2 ∷ 3 ∷ 4 ∷ 5 ∷ 6 ∷ 7 ∷ 8 ∷ 9 ∷ 10 ∷ [])
     × (answers ≡ good 111 ∷ good 4294967295 ∷ Refused 36 0 ∷ Refused 37 0 ∷ Refused 37 0 ∷ Refused 38 0 ∷ Refused 31 4 ∷ [])
-unfolding slots namedIds rowsOf encodeRow guessOf lackOf lowerOf lowestOr lowest first labelled twice namedAt named guessAt guessed wrongPlace wrongLabelTest noSuchPartTest withoutGuessTest checkOf countBelow malformedTest soundTest spelledTest runTo wordAt byteOn labelAt labelOn suffixedOn
+unfolding slots namedIds rowsOf encodeRow bytesOf guessOf lackOf lowerOf lowestOr lowest first labelled twice namedAt named guessAt guessed wrongPlace wrongLabelTest noSuchPartTest withoutGuessTest checkOf countBelow malformedTest soundTest spelledTest runTo wordAt byteOn labelAt labelOn suffixedOn
 examples = (refl, refl, refl, refl)

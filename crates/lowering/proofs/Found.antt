@@ -14,7 +14,7 @@ use Rattle.drawing.specs.Needs.{Shape, point, circle, arc, declaring, pairGuess
 use Rattle.drawing.specs.Faults.{Declaration, Guess}
 use Rattle.lowering.specs.Slots.{guessOf}
 use Rattle.lowering.specs.Demand.{Declares}
-use Rattle.lowering.proofs.Lists.{Each, each-has}
+use Rattle.ground.proofs.Pieces.{Each, each-has}
 use Rattle.lowering.proofs.Counts.{says-within}
 use Rattle.lowering.proofs.Fine.{Fine, same-record}
 

@@ -22,11 +22,13 @@ use Rattle.index.proofs.Laws.{says-same}
 use Rattle.drawing.specs.Needs as needs
 use needs.{Shape, point, circle, arc, Need, needAt}
 use Rattle.drawing.specs.Faults.{Rule, Named, Meets}
-use Rattle.lowering.specs.Slots.{slots, flat, size, firstSlot}
-use Rattle.lowering.specs.Rows.{whole, part, center, namingOf, names, namedIds, mostIds}
-use Rattle.lowering.specs.Offsets.{componentAt, widthOf, idsAt, sumTo, idsOfKind}
+use Rattle.ground.specs.Lists.{flat, sumTo}
+use Rattle.lowering.specs.Slots.{slots, size, firstSlot}
+use Rattle.row.specs.Row.{mostIds}
+use Rattle.lowering.specs.Rows.{whole, part, center, namingOf, names, namedIds}
+use Rattle.lowering.specs.Offsets.{componentAt, widthOf, idsAt, idsOfKind}
 use Rattle.lowering.specs.Demand.{slotAt, Declares, Carries}
-use Rattle.lowering.proofs.Lists.{sum-to, sum-flat}
+use Rattle.ground.proofs.Pieces.{sum-to, sum-flat}
 use Rattle.lowering.proofs.Fine.{Fine}
 use Rattle.lowering.proofs.Ids.{ids-named, ids-has, ids-rise}
 use Rattle.lowering.proofs.Named.{says-names, PairPart, the-point, circle-center, arc-center, XY, whole-ids, part-ids, center-ids}

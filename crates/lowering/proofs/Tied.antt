@@ -31,13 +31,15 @@ use Rattle.index.specs.Labels.{kindNo, nameNo, same, within}
 use Rattle.index.proofs.Laws.{says-same}
 use Rattle.drawing.specs.Needs.{Shape, point, circle, arc, declaring, needAt}
 use Rattle.drawing.specs.Faults.{Rule, Meets}
-use Rattle.lowering.specs.Slots.{flat, slots, size, before, howMany, kindFor, layoutOf, firstSlot}
-use Rattle.lowering.specs.Rows.{whole, part, center, namingOf, namedIds, rowFor, rulesOf, rowsOf, encodeRow, encodeRows}
+use Rattle.ground.specs.Lists.{flat}
+use Rattle.lowering.specs.Slots.{slots, size, before, howMany, kindFor, layoutOf, firstSlot}
+use Rattle.row.specs.Row.{encodeRow, encodeRows}
+use Rattle.lowering.specs.Rows.{whole, part, center, namingOf, namedIds, rowFor, rulesOf, rowsOf}
 use Rattle.lowering.specs.Lower.{onto}
 use Rattle.lowering.specs.Offsets.{componentAt}
 use Rattle.lowering.specs.Demand.{Declares}
 use Rattle.lowering.specs.Steps.{shapeNo, sizeBy, centerBy, axisAt, endsIn, centerSpan, spanOf, sixOf, spanIds, labelIds, rowIds, rowAt, rowIf, rowsBelow, Sayable, Writable, Passing}
-use Rattle.lowering.proofs.Lists.{Each, each-of}
+use Rattle.ground.proofs.Pieces.{Each, each-of}
 use Rattle.lowering.proofs.Counts.{says-within, before-inside, length-slots, possible}
 use Rattle.lowering.proofs.Fine.{Fine, fine, declaration, NoDot, plain-no-dot, plain-name}
 use Rattle.lowering.proofs.Places.{slot-of}
@@ -311,5 +313,5 @@ module _ (es : List Entry) (next : ℕ) (ids : List ℕ) (values : List Float) (
   pub writable : Writable es (layoutOf es) (onto ids (onward next (length (slots es)))) rows
   writable = record {
     each = λ i h u. sayable es (fine es (p .passes)) (p .few) next ids i h u;
-    room = omega (arith, ap length rows-are, length-rows es (fine es (p .passes)) next, p .enough .rows-lent);
+    room = omega (arith, ap length rows-are, length-rows es next, p .enough .rows-lent);
   }

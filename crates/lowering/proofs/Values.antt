@@ -13,7 +13,7 @@ use Rattle.drawing.specs.Needs.{Shape, point, circle, arc, pairGuess, Part, par
 use Rattle.drawing.specs.Faults.{Guess}
 use Rattle.lowering.specs.Slots.{Slot, slot, x-axis, y-axis, no-axis, slotsOfPart, slotsOfShape, slotsOf, slots, numberFor, startOf, valuesOf}
 use Rattle.lowering.specs.Demand.{noSlot, slotAt, Starts}
-use Rattle.lowering.proofs.Lists.{Each, each-at, each-flat, each-mem, getD-map}
+use Rattle.ground.proofs.Pieces.{Each, each-at, each-flat, each-mem, getD-map}
 use Rattle.lowering.proofs.Counts.{length-shape}
 use Rattle.lowering.proofs.Fine.{Fine}
 use Rattle.lowering.proofs.Found.{guess-kind, guess-of}

@@ -16,7 +16,8 @@ use Rattle.drawing.specs.Check.{checkOf}
 use Rattle.lowering.specs.declared.Lowered.{Lowered}
 use Rattle.lowering.specs.declared.Lowered.the-variants as L
 use Rattle.lowering.specs.Slots.{slots, layoutOf, valuesOf}
-use Rattle.lowering.specs.Rows.{rulesOf, rowsOf, rowBytes, encodeRows}
+use Rattle.row.specs.Row.{rowBytes, encodeRows}
+use Rattle.lowering.specs.Rows.{rulesOf, rowsOf}
 
 -- ---- 36, 37, 38
 

@@ -6,6 +6,7 @@ use Prim.Native.Nat.{ℕ}
 use lib.Dec.{eqb}
 use lib.ListN.{length}
 use lib.Ieee.{Float, binary64, ofBits}
+use Rattle.ground.specs.Lists.{flat}
 use Rattle.layout.specs.declared.Layout.{Layout}
 use Rattle.layout.specs.declared.Stage.the-variants.{Done}
 use Rattle.layout.specs.declared.Kind.{Kind}
@@ -41,11 +42,6 @@ slot l suffix axis = record { shape = l; suffix = suffix; axis = axis }
 -- the components of a part of the shape l: a pair has two, a number is one
 abbrev pub slotsOfPart : Label → Part → List Slot
 slotsOfPart l p = cond (eqb (p .guess) pairGuess) (slot l (p .suffix) x-axis ∷ slot l (p .suffix) y-axis ∷ []) (slot l (p .suffix) no-axis ∷ [])
-
--- what f makes of each, one after another
-abbrev pub flat : {A B : Type 0} → (A → List B) → List A → List B
-flat f [] = []
-flat f (x ∷ xs) = f x ++ flat f xs
 
 -- the components of a shape with the label l
 abbrev pub slotsOfShape : Shape → Label → List Slot

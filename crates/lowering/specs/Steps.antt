@@ -27,7 +27,6 @@ use Rattle.layout.specs.Run.{act, done}
 use Rattle.layout.specs.Look.{pointIds, circleIds, arcSlotIds}
 use Rattle.store.specs.Store.{written}
 use Rattle.record.specs.Kinds.{assigned, a-round, kindAt}
-use Rattle.record.specs.Record.{le64}
 use Rattle.record.specs.Entry.{Label, Entry, entryAt, labelNo}
 use Rattle.record.specs.Formed.{most}
 use Rattle.index.specs.Labels.{kindNo, nameNo, same, within, labelled, lowestOr}
@@ -36,8 +35,10 @@ use Rattle.drawing.specs.Needs.{Shape, point, circle, arc}
 use Rattle.drawing.specs.Faults.{Rule}
 use Rattle.drawing.specs.Check.{countBelow, checkOf}
 use Rattle.lowering.specs.declared.spans.Span.{Span}
-use Rattle.lowering.specs.Slots.{slot, x-axis, y-axis, no-axis, startOf, slots, flat, layoutOf, valuesOf}
-use Rattle.lowering.specs.Rows.{Naming, whole, part, center, namingOf, rowMark, rowBytes, mostIds, le32, encodeRow, encodeRows, rowsOf}
+use Rattle.ground.specs.Lists.{flat}
+use Rattle.lowering.specs.Slots.{slot, x-axis, y-axis, no-axis, startOf, slots, layoutOf, valuesOf}
+use Rattle.row.specs.Row.{rowBytes, mostIds, encodeRow, encodeRows}
+use Rattle.lowering.specs.Rows.{Naming, whole, part, center, namingOf, rowsOf}
 use Rattle.lowering.specs.Lower.{Room, roomIn, onto}
 use Rattle.lowering.specs.Demand.{Enough}
 
@@ -188,10 +189,6 @@ abbrev pub rowIds : List Entry → Layout → List ℕ → Entry → List ℕ
 rowIds es l ids e = flat (labelIds es l ids e) (e .labels)
 
 -- ---- rows
-
--- the bytes of a row, by its eight ids
-unfoldable pub rowBytesOf : ℕ → ℕ → ℕ → List ℕ → ℕ → List ℕ
-rowBytesOf kind count third eight bits = rowMark ∷ kind ∷ count ∷ third ∷ (flat le32 eight ++ le64 bits)
 
 -- the bytes of the row of entry i
 unfoldable pub rowAt : List Entry → Layout → List ℕ → ℕ → List ℕ

@@ -1,5 +1,5 @@
 // Lowering: a drawing that passes the check becomes slots with ids and starting values, and a row for each rule.
-mod row;
+mod rules;
 mod shapes;
 mod spans;
 
@@ -12,11 +12,9 @@ ghost use Rattle.lowering.specs.Steps.{Passing, Filled, lackTold};
 use drawing::Checked;
 use drawing::check;
 use layout::Layout;
-use row::fill_rows;
+use rules::fill_rows;
+use row::ROW;
 use shapes::fill_slots;
-
-// The length of a row.
-pub const ROW: usize = 44;
 
 // One past the largest id.
 const IDS_END: u32 = 4_294_967_295;

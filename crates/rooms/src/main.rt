@@ -1,8 +1,8 @@
 // Lowers pages with too few ids, with short slices and row buffers, and with damaged records, one lack at a time and two together. Prints a line for what is
 // told of each, and whether everything lent stayed as it was.
 use libc::STDOUT_FILENO;
-use lines::Place;
 use lowering::Lowered;
+use rail::Place;
 use reader::Reading;
 use record::SIZE;
 

@@ -8,11 +8,11 @@ use lib.ListN.{length}
 use borrow.Author.Needs.{needs}
 use Rattle.print.specs.Print.{decimalOf}
 use Rattle.record.specs.Entry.{upTo}
-use Rattle.lines.specs.declared.Place.{Place}
-use Rattle.lines.specs.Lines.{spaced}
-use Rattle.lines.specs.Drawn.{idAt, idsIn}
-use Rattle.lines.specs.Rail.{Adds}
-use Rattle.lines.proofs.Added.{both, said}
+use Rattle.rail.specs.declared.Place.{Place}
+use Rattle.rail.specs.Words.{spaced}
+use Rattle.row.specs.Row.{idAt, idsIn}
+use Rattle.rail.specs.Steps.{Adds}
+use Rattle.rail.proofs.Added.{added, both, said}
 use Rattle.lines.proofs.Spaced.{label-more}
 use Rattle.lines.proofs.Telling.{ids-most}
 use Rattle.lines.proofs.drawn.row_opening.Statement.{statement}
@@ -49,7 +49,7 @@ returns : tie.Need-returns Inv-loop μ-loop
 returns c =
     let l = c .before .loop in
     let e : l .q ≡ idsIn (c .before .before .before .before .before .before .before .before .before .before .args .b .now) = omega (arith, c .before .before .ids-in .ensures) in
-    said (l .inv .2 _ _ _ (c .before .before .before .before .before .decimal .ensures)) (rw e)
+    said (l .inv .2 _ _ _ (added (c .before .before .before .before .before .decimal .ensures))) (rw e)
 
 pub row-opening-spec : {M : Type 1} → statement M
 row-opening-spec =
