@@ -18,8 +18,9 @@ use Rattle.record.specs.Entry.{startOf, lenOf, named, entryOf}
 use Rattle.record.specs.declared.Record.{Record}
 use Rattle.record.proofs.Back.{decode-all}
 use Rattle.record.proofs.UpTo.{length-up-to}
-use Rattle.reader.specs.Page.{longestText, recordsIn}
-use Rattle.reader.proofs.SoundLines.{Proper}
+use Rattle.forms.specs.Section.{longestText}
+use Rattle.forms.proofs.SoundLines.{Proper}
+use Rattle.reader.specs.Page.{recordsIn}
 use Rattle.reader.proofs.SoundPage.{record-at}
 
 -- a guess has one label, and an instruction no pair: one computed test
