@@ -22,7 +22,7 @@ use Rattle.text.specs.declared.Label.{Label}
 use Rattle.text.proofs.Stand.{the-type}
 use Rattle.text.proofs.Laws.{runTo-stop, runTo-end}
 use Rattle.number.specs.Number.{numberOn}
-use Rattle.record.specs.Kinds.{wordOf}
+use Rattle.record.specs.Kinds.{newPoint, newCircle, newArc, fixComponent, fixCenter, wordOf}
 use Rattle.record.specs.declared.Record.{Record}
 use Rattle.forms.specs.Forms.{Lines, noLine, lineOf, labelled, orLine, aroundOn, pairOn, declareOn, fixedOn, assignOn, order, firstOf, labelFormsOn, instructionOn, guessedOn, guessOn, lineOn}
 use Rattle.forms.specs.Steps.{assignedOn, behindOn, declarationOn, opens, noneBegins}
@@ -72,17 +72,17 @@ module _ (s : List ℕ) (at b : ℕ) (e : getD s at 0 ≡ b) where
   not-declared : (k : ℕ) → opens b (wordOf k) ≡ false → declareOn s (At at) k ≡ noLine Nothing
   not-declared k f = no-declaration s (At at) k (word-not (wordOf k) s at (rw e f))
 
-  pub first-declared : opens b (wordOf 2) ≡ false → opens b (wordOf 3) ≡ false → declareOn s (At at) 1 ≡ declarationOn s (At at)
-  first-declared f g = rw (not-declared 2 f, not-declared 3 g) (declared-or s (At at) 1)
+  pub first-declared : opens b (wordOf newCircle) ≡ false → opens b (wordOf newArc) ≡ false → declareOn s (At at) newPoint ≡ declarationOn s (At at)
+  first-declared f g = rw (not-declared newCircle f, not-declared newArc g) (declared-or s (At at) newPoint)
 
-  pub second-declared : opens b (wordOf 1) ≡ false → opens b (wordOf 3) ≡ false → declareOn s (At at) 2 ≡ declarationOn s (At at)
-  second-declared f g = rw (not-declared 1 f, not-declared 3 g) (declared-or s (At at) 2)
+  pub second-declared : opens b (wordOf newPoint) ≡ false → opens b (wordOf newArc) ≡ false → declareOn s (At at) newCircle ≡ declarationOn s (At at)
+  second-declared f g = rw (not-declared newPoint f, not-declared newArc g) (declared-or s (At at) newCircle)
 
-  pub third-declared : opens b (wordOf 1) ≡ false → opens b (wordOf 2) ≡ false → declareOn s (At at) 3 ≡ declarationOn s (At at)
-  third-declared f g = rw (not-declared 1 f, not-declared 2 g)
+  pub third-declared : opens b (wordOf newPoint) ≡ false → opens b (wordOf newCircle) ≡ false → declareOn s (At at) newArc ≡ declarationOn s (At at)
+  third-declared f g = rw (not-declared newPoint f, not-declared newCircle g)
 
-  pub none-declared : opens b (wordOf 1) ≡ false → opens b (wordOf 2) ≡ false → opens b (wordOf 3) ≡ false → noLine Nothing ≡ declarationOn s (At at)
-  none-declared f g h = rw (not-declared 1 f, not-declared 2 g, not-declared 3 h)
+  pub none-declared : opens b (wordOf newPoint) ≡ false → opens b (wordOf newCircle) ≡ false → opens b (wordOf newArc) ≡ false → noLine Nothing ≡ declarationOn s (At at)
+  none-declared f g h = rw (not-declared newPoint f, not-declared newCircle g, not-declared newArc h)
 
 -- ---- keywords
 
@@ -127,7 +127,7 @@ module _ (s : List ℕ) (at : ℕ) (l : Label) (next b : ℕ) (e : l .then ≡ A
 
   -- no point
   pub no-point : assignedOn s (At at) l ≡ behindOn s (At at) l
-  no-point = rw (fixed-not 4 (bytes ".") o, fixed-not 18 (bytes ".center.") o)
+  no-point = rw (fixed-not fixComponent (bytes ".") o, fixed-not fixCenter (bytes ".center.") o)
 
   -- neither a point nor a space nor `=`
   pub no-label-form : isSpace b ≡ false → eqb b 61 ≡ false → firstOf s (At at) order ≡ behindOn s (At at) l
@@ -142,7 +142,7 @@ pub by-declaration : (s : List ℕ) (stand : Stand) → instructionOn s stand �
 unfolding instructionOn
 by-declaration s stand =
     let at = wsOn s stand in
-    sym (or-assoc (declareOn s at 1) (orLine (declareOn s at 2) (declareOn s at 3)) (labelFormsOn s at) ∙ rw (or-assoc (declareOn s at 2) (declareOn s at 3) (labelFormsOn s at)))
+    sym (or-assoc (declareOn s at newPoint) (orLine (declareOn s at newCircle) (declareOn s at newArc)) (labelFormsOn s at) ∙ rw (or-assoc (declareOn s at newCircle) (declareOn s at newArc) (labelFormsOn s at)))
 
 -- ---- where reading stands at no place
 
@@ -157,8 +157,8 @@ labels-nowhere s =
     let l : Label = record { start = 0; len = 0; then = Nothing } in
     let stays : (w : List ℕ) → wordOn s Nothing w ≡ Nothing = λ w. kept-nothing s .word w refl in
     rw (
-      not-fixed s l 4 (bytes ".") (stays (bytes ".")),
-      not-fixed s l 18 (bytes ".center.") (stays (bytes ".center.")),
+      not-fixed s l fixComponent (bytes ".") (stays (bytes ".")),
+      not-fixed s l fixCenter (bytes ".center.") (stays (bytes ".center.")),
       not-assigned s l (around-kept (kept-nothing s) 61 (suffixed-kept (kept-nothing s) l refl)),
     )
     (first-nowhere s order)

@@ -17,10 +17,9 @@ use Rattle.text.specs.declared.Stand.the-variants.{At, Nothing, Refused}
 use Rattle.text.specs.declared.Label.{Label}
 use Rattle.text.proofs.Laws.{runTo-more, runTo-stop, runTo-end}
 use Rattle.text.proofs.Within.{runTo-read}
-use Rattle.record.specs.Entry.{part}
+use Rattle.record.specs.Entry.{part, noView}
 use Rattle.record.specs.Sound.{Plain, Spelled}
-use Rattle.record.specs.Decode.{Absent}
-use Rattle.forms.specs.Forms.{aroundOn, moreOn}
+use Rattle.forms.specs.Forms.{viewFrom, aroundOn, moreOn}
 use Rattle.forms.proofs.Stands.{Reached, here}
 
 -- ---- runs
@@ -157,9 +156,9 @@ module _ (s : List ℕ) where
 
 pub record More (s : List ℕ) (on : Bool) (l : Label) : Type 0 where
   pub there : on ≡ true → Found s false l
-  pub absent : on ≡ false → Absent (l .start) (l .len)
+  pub absent : on ≡ false → viewFrom l ≡ noView
 
 pub more-found : (s : List ℕ) (t : Stand) (on : Bool) → Reached (moreOn s t on .then) → More s on (moreOn s t on)
 unfolding moreOn
 more-found s t true h = record { there = λ e. label-found s (aroundOn s t 44) h; absent = λ e. absurd (true≢false e) }
-more-found s t false h = record { there = λ e. absurd (true≢false (sym e)); absent = λ e. record { no-start = refl; no-len = refl } }
+more-found s t false h = record { there = λ e. absurd (true≢false (sym e)); absent = λ e. refl }

@@ -9,7 +9,7 @@ use Rattle.text.specs.declared.Stand.{Stand}
 use Rattle.text.specs.declared.Stand.the-variants.{At, Nothing, Refused}
 use Rattle.text.specs.declared.Label.{Label}
 use Rattle.number.specs.Number.{numberOn, exprOn}
-use Rattle.record.specs.Kinds.{kindAt, wordOf, none, number, expression}
+use Rattle.record.specs.Kinds.{newPoint, newCircle, newArc, fixComponent, fixCenter, kindAt, wordOf, none, number, expression}
 use Rattle.forms.specs.declared.pieces.Amount.{Amount}
 use Rattle.forms.specs.declared.pieces.Side.{Side}
 use Rattle.forms.specs.Forms.{Lines, orLine, aroundOn, eitherOn, pairOn, declareOn, fixedOn, assignOn, moreOn, angleOn, plainAmount, amountOn, gapOn, keywordOn, order, firstOf, labelFormsOn, instructionOn, guessedOn, guessOn, lineOn}
@@ -121,8 +121,8 @@ module _ {s : List ℕ} {P : Stand → Type 0} (k : Kept s P) where
   label-forms-kept {t} h =
       let l = labelOn s t in
       let f = k .label h in
-      or-kept (fixedOn s l 4 (bytes ".")) (orLine (fixedOn s l 18 (bytes ".center.")) (orLine (assignOn s l) (firstOf s t order))) (fixed-kept l 4 (bytes ".") (k .word (bytes ".") f))
-      (or-kept (fixedOn s l 18 (bytes ".center.")) (orLine (assignOn s l) (firstOf s t order)) (fixed-kept l 18 (bytes ".center.") (k .word (bytes ".center.") f))
+      or-kept (fixedOn s l fixComponent (bytes ".")) (orLine (fixedOn s l fixCenter (bytes ".center.")) (orLine (assignOn s l) (firstOf s t order))) (fixed-kept l fixComponent (bytes ".") (k .word (bytes ".") f))
+      (or-kept (fixedOn s l fixCenter (bytes ".center.")) (orLine (assignOn s l) (firstOf s t order)) (fixed-kept l fixCenter (bytes ".center.") (k .word (bytes ".center.") f))
       (or-kept (assignOn s l) (firstOf s t order) (assign-kept l (around-kept 61 (suffixed-kept l f))) (first-kept order h)))
 
   instruction-kept : {t : Stand} → P t → P (instructionOn s t .then)
@@ -130,9 +130,9 @@ module _ {s : List ℕ} {P : Stand → Type 0} (k : Kept s P) where
   instruction-kept {t} h =
       let at = wsOn s t in
       let declared : (kind : ℕ) → P (declareOn s at kind .then) = λ kind. declare-kept at kind (k .word (wordOf kind) (k .ws h)) in
-      or-kept (declareOn s at 1) (orLine (declareOn s at 2) (orLine (declareOn s at 3) (labelFormsOn s at))) (declared 1)
-      (or-kept (declareOn s at 2) (orLine (declareOn s at 3) (labelFormsOn s at)) (declared 2)
-      (or-kept (declareOn s at 3) (labelFormsOn s at) (declared 3) (label-forms-kept (k .ws h))))
+      or-kept (declareOn s at newPoint) (orLine (declareOn s at newCircle) (orLine (declareOn s at newArc) (labelFormsOn s at))) (declared newPoint)
+      (or-kept (declareOn s at newCircle) (orLine (declareOn s at newArc) (labelFormsOn s at)) (declared newCircle)
+      (or-kept (declareOn s at newArc) (labelFormsOn s at) (declared newArc) (label-forms-kept (k .ws h))))
 
   guessed-kept : {t : Stand} (l : Label) → P t → P (guessedOn s l t .then)
   unfolding guessedOn

@@ -18,17 +18,17 @@ use Rattle.text.specs.declared.Stand.the-variants.{At, Nothing, Refused}
 use Rattle.text.specs.declared.Label.{Label}
 use Rattle.number.specs.Number.{numberOn}
 use Rattle.number.proofs.Small.{number-fit, expr-fit}
-use Rattle.record.specs.Kinds.{kindAt, wordOf, none, number, expression, pair, either}
-use Rattle.record.specs.Record.{firstGuess}
+use Rattle.record.specs.Kinds.{newPoint, newCircle, newArc, fixComponent, fixCenter, pairGuess, numberGuess, kindAt, wordOf, none, number, expression, pair, either}
+use Rattle.record.specs.Record.{labelPlaces, firstGuess}
 use Rattle.record.specs.Decode.{isGuess}
-use Rattle.record.specs.Entry.{startOf, lenOf, named, entryOf}
-use Rattle.record.specs.Sound.{labelPlaces, Spelled, Placed, Known, Third, Sound}
+use Rattle.record.specs.Entry.{noView, viewOf, named, entryOf}
+use Rattle.record.specs.Sound.{Spelled, Placed, Known, Third, Sound}
 use Rattle.record.specs.declared.Record.{Record}
-use Rattle.record.proofs.UpTo.{length-up-to, getD-up-to}
+use Rattle.record.proofs.UpTo.{length-up-to, getD-up-to, each-place}
 use Rattle.record.proofs.Agree.{says-known}
 use Rattle.forms.specs.declared.pieces.Amount.{Amount}
 use Rattle.forms.specs.declared.pieces.Side.{Side}
-use Rattle.forms.specs.Forms.{Lines, lineOf, orLine, labelled, aroundOn, eitherOn, componentOn, pairOn, declareOn, fixedOn, assignOn, moreOn, angleOn, amountOn, gapOn, keywordOn, order, firstOf, labelFormsOn, instructionOn, guessedOn, guessOn, lineOn}
+use Rattle.forms.specs.Forms.{Lines, lineOf, orLine, viewFrom, labelled, aroundOn, eitherOn, componentOn, pairOn, declareOn, fixedOn, assignOn, moreOn, angleOn, amountOn, gapOn, keywordOn, order, firstOf, labelFormsOn, instructionOn, guessedOn, guessOn, lineOn}
 use Rattle.forms.proofs.Kept.{side, picked, either-of, side-kept, pair-kept, suffixed-kept, around-kept, more-kept, gap-kept, amount-kept}
 use Rattle.forms.proofs.Stands.{Reached, here, Behind, same, kept-behind}
 use Rattle.forms.proofs.Found.{Found, dotted, label-found, suffixed-found, More, more-found}
@@ -43,6 +43,7 @@ Each P (x ∷ xs) = P x × Each P xs
 pub record Proper (s : List ℕ) (guess : Bool) (r : Record) : Type 0 where
   pub sort : isGuess (r .kind) ≡ guess
   pub few : r .count ≤ labelPlaces
+  pub places : length (r .labels) ≡ labelPlaces
   pub placed : EachBelow labelPlaces (Placed s r)
   pub sound : Sound (entryOf s r)
   pub x-fits : r .x < 2 ^ 64
@@ -70,41 +71,35 @@ sound-of s r known third count spelled no-x no-y =
 
 -- a label place that is used names a label of the text, and one that is not has zeros
 record Slot (s : List ℕ) (dotted : Bool) (r : Record) (q : ℕ) : Type 0 where
-  inside : q < r .count → startOf r q + lenOf r q ≤ length s
+  inside : q < r .count → viewOf r q .start + viewOf r q .len ≤ length s
   spelled : q < r .count → Spelled dotted (named s r q)
-  unused : r .count ≤ q → (startOf r q ≡ 0) × (lenOf r q ≡ 0)
-
-four : (P : ℕ → Type 0) → P 0 → P 1 → P 2 → P 3 → EachBelow labelPlaces P
-four P a b c d zero h = a
-four P a b c d (suc zero) h = b
-four P a b c d (suc (suc zero)) h = c
-four P a b c d (suc (suc (suc zero))) h = d
-four P a b c d (suc (suc (suc (suc q)))) h = absurd (omega arith)
+  unused : r .count ≤ q → viewOf r q ≡ noView
 
 module _ (s : List ℕ) (r : Record) where
-  found-slot : (dotted : Bool) (q : ℕ) (l : Label) → startOf r q ≡ l .start → lenOf r q ≡ l .len → q < r .count → Found s dotted l → Slot s dotted r q
-  found-slot dotted q l a b c f =
-      record { inside = λ h. rw (a, b) (f .inside); spelled = λ h. rw (a, b) (f .spelled); unused = λ h. absurd (omega arith) }
+  found-slot : (dotted : Bool) (q : ℕ) (l : Label) → viewOf r q ≡ viewFrom l → q < r .count → Found s dotted l → Slot s dotted r q
+  found-slot dotted q l a c f =
+      record { inside = λ h. rw a (f .inside); spelled = λ h. rw a (f .spelled); unused = λ h. absurd (omega arith) }
 
-  more-slot : (q : ℕ) (l : Label) → startOf r q ≡ l .start → lenOf r q ≡ l .len → More s (ltb q (r .count)) l → Slot s false r q
-  more-slot q l a b t =
+  more-slot : (q : ℕ) (l : Label) → viewOf r q ≡ viewFrom l → More s (ltb q (r .count)) l → Slot s false r q
+  more-slot q l a t =
       record {
-        inside = λ h. rw (a, b) (t .there (lt-ltb q (r .count) h) .inside);
-        spelled = λ h. rw (a, b) (t .there (lt-ltb q (r .count) h) .spelled);
-        unused = λ h. let e = t .absent (le-ltb q (r .count) h) in (a ∙ e .no-start, b ∙ e .no-len);
+        inside = λ h. rw a (t .there (lt-ltb q (r .count) h) .inside);
+        spelled = λ h. rw a (t .there (lt-ltb q (r .count) h) .spelled);
+        unused = λ h. a ∙ t .absent (le-ltb q (r .count) h);
       }
 
-  no-slot : (dotted : Bool) (q : ℕ) → r .count ≤ q → startOf r q ≡ 0 → lenOf r q ≡ 0 → Slot s dotted r q
-  no-slot dotted q c a b = record { inside = λ h. absurd (omega arith); spelled = λ h. absurd (omega arith); unused = λ h. (a, b) }
+  no-slot : (dotted : Bool) (q : ℕ) → r .count ≤ q → viewOf r q ≡ noView → Slot s dotted r q
+  no-slot dotted q c a = record { inside = λ h. absurd (omega arith); spelled = λ h. absurd (omega arith); unused = λ h. a }
 
   proper-of : (guess : Bool) → isGuess (r .kind) ≡ guess → Known (r .kind) → Third (r .kind) (r .third)
-      → r .count ≡ kindAt (r .kind) .labels → r .count ≤ labelPlaces → EachBelow labelPlaces (Slot s (kindAt (r .kind) .dotted) r)
+      → r .count ≡ kindAt (r .kind) .labels → r .count ≤ labelPlaces → length (r .labels) ≡ labelPlaces → EachBelow labelPlaces (Slot s (kindAt (r .kind) .dotted) r)
       → (kindAt (r .kind) .number ≡ none → r .x ≡ 0) → ((kindAt (r .kind) .number ≡ pair → ⊥) → r .y ≡ 0)
       → r .x < 2 ^ 64 → r .y < 2 ^ 64 → Proper s guess r
-  proper-of guess sort known third count few slots no-x no-y x-fits y-fits =
+  proper-of guess sort known third count few places slots no-x no-y x-fits y-fits =
       record {
         sort = sort;
         few = few;
+        places = places;
         placed = λ q h. record { used = slots q h .inside; unused = slots q h .unused };
         sound = sound-of s r known third count (λ q h. slots q (omega arith) .spelled h) no-x no-y;
         x-fits = x-fits;
@@ -118,8 +113,8 @@ one-proper : (s : List ℕ) (guess : Bool) (kind third x y : ℕ) (l : Label) �
 one-proper s guess kind third x y l sort known count t no-x no-y x-fits y-fits f =
     let r = labelled kind third l x y in
     let d = kindAt kind .dotted in
-    proper-of s r guess sort known t count (omega arith)
-    (four (Slot s d r) (found-slot s r d 0 l refl refl (omega arith) f) (no-slot s r d 1 (omega arith) refl refl) (no-slot s r d 2 (omega arith) refl refl) (no-slot s r d 3 (omega arith) refl refl))
+    proper-of s r guess sort known t count (omega arith) refl
+    (each-place (Slot s d r) (found-slot s r d 0 l refl (omega arith) f) (no-slot s r d 1 (omega arith) refl) (no-slot s r d 2 (omega arith) refl) (no-slot s r d 3 (omega arith) refl))
     no-x no-y x-fits y-fits
 
 -- ---- third bytes
@@ -199,14 +194,14 @@ row k =
 all-rows : all row order ≡ true
 all-rows = refl
 
-row-proper : (s : List ℕ) (r : Record) → row (r .kind) ≡ true → r .count ≡ kindAt (r .kind) .labels → EachBelow labelPlaces (Slot s false r)
+row-proper : (s : List ℕ) (r : Record) → row (r .kind) ≡ true → r .count ≡ kindAt (r .kind) .labels → length (r .labels) ≡ labelPlaces → EachBelow labelPlaces (Slot s false r)
     → (r .third ≤ thirdsOf (kindAt (r .kind) .number)) × (0 < thirdsOf (kindAt (r .kind) .number) → 0 < r .third)
     → (kindAt (r .kind) .number ≡ none → r .x ≡ 0) → r .x < 2 ^ 64 → r .y ≡ 0 → Proper s false r
-row-proper s r e count slots third no-x x-fits no-y =
+row-proper s r e count places slots third no-x x-fits no-y =
     let k = r .kind in
     let z = kindAt k in
     let w = says-and says-so (says-and (says-le (z .labels) labelPlaces) (says-and (says-lt k firstGuess) (says-and says-so (says-eq (z .thirds) (thirdsOf (z .number)))))) .so e in
-    proper-of s r false (lt-leb firstGuess k (w .1 .1 .0)) (says-known k .so (w .0)) (rw (w .1 .1 .1 .1) third) count (omega (arith, count, w .1 .0))
+    proper-of s r false (lt-leb firstGuess k (w .1 .1 .0)) (says-known k .so (w .0)) (rw (w .1 .1 .1 .1) third) count (omega (arith, count, w .1 .0)) places
     (rw (not-true (z .dotted) (w .1 .1 .1 .0)) slots) no-x (λ f. no-y) x-fits (rw no-y small)
 
 row-labels : (k : ℕ) → row k ≡ true → 0 < kindAt k .labels
@@ -243,9 +238,9 @@ module _ (s : List ℕ) where
       let p = pairOn s v in
       let on = kept-behind s (l .then) in
       let b : Behind (l .then) (p .then) = pair-kept on (around-kept on 61 (suffixed-kept on l (same (l .then)))) in
-      let one : (third x : ℕ) → third ≤ either → 0 < third → x < 2 ^ 64 → Reached (p .then) → Proper s false (labelled 4 third m x 0)
-      = λ third x few some fits h. one-proper s false 4 third x 0 m refl (says-known 4 .so refl) refl (few, λ z. some) (λ e. absurd (omega (arith, e))) (λ e. refl) fits small (suffixed-found s l (f (b .back h))) in
-      lined s false (labelled 4 1 m (p .x) 0 ∷ labelled 4 2 m (p .y) 0 ∷ []) (p .then) (omega arith) (omega arith)
+      let one : (third x : ℕ) → third ≤ either → 0 < third → x < 2 ^ 64 → Reached (p .then) → Proper s false (labelled fixComponent third m x 0)
+      = λ third x few some fits h. one-proper s false fixComponent third x 0 m refl (says-known fixComponent .so refl) refl (few, λ z. some) (λ e. absurd (omega (arith, e))) (λ e. refl) fits small (suffixed-found s l (f (b .back h))) in
+      lined s false (labelled fixComponent 1 m (p .x) 0 ∷ labelled fixComponent 2 m (p .y) 0 ∷ []) (p .then) (omega arith) (omega arith)
       (λ h. (one 1 (p .x) (omega arith) (omega arith) (pair-fit s v .0) h, (one 2 (p .y) (omega arith) (omega arith) (pair-fit s v .1) h, tt)))
 
   keyword-lined : (k : ℕ) (t : Stand) → row k ≡ true → Lined s false (keywordOn s t k)
@@ -267,11 +262,11 @@ module _ (s : List ℕ) where
       let hc = more-kept (kept-behind s (c .then)) (ltb 3 (z .labels)) (same (c .then)) .back hd in
       let hb = more-kept (kept-behind s (b .then)) (ltb 2 (z .labels)) (same (b .then)) .back hc in
       let ha = more-kept (kept-behind s (a .then)) (ltb 1 (z .labels)) (same (a .then)) .back hb in
-      row-proper s _ e refl
-      (four (Slot s false _) (found-slot s _ false 0 a refl refl (row-labels k e) (label-found s at ha))
-      (more-slot s _ 1 b refl refl (more-found s (a .then) (ltb 1 (z .labels)) hb))
-      (more-slot s _ 2 c refl refl (more-found s (b .then) (ltb 2 (z .labels)) hc))
-      (more-slot s _ 3 d refl refl (more-found s (c .then) (ltb 3 (z .labels)) hd)))
+      row-proper s _ e refl refl
+      (each-place (Slot s false _) (found-slot s _ false 0 a refl (row-labels k e) (label-found s at ha))
+      (more-slot s _ 1 b refl (more-found s (a .then) (ltb 1 (z .labels)) hb))
+      (more-slot s _ 2 c refl (more-found s (b .then) (ltb 2 (z .labels)) hc))
+      (more-slot s _ 3 d refl (more-found s (c .then) (ltb 3 (z .labels)) hd)))
       (amount-third s (d .then) (z .number)) (amount-none s (d .then) (z .number)) (amount-fit s (d .then) (z .number)) refl)
 
   first-lined : (ks : List ℕ) (t : Stand) → all row ks ≡ true → Lined s false (firstOf s t ks)
@@ -287,19 +282,19 @@ module _ (s : List ℕ) where
   unfolding labelFormsOn
   label-forms-lined t =
       let l = labelOn s t in
-      or-lined s false (fixedOn s l 4 (bytes ".")) _
-      (fixed-lined l 4 (bytes ".") refl (says-known 4 .so refl) refl refl refl (λ h. dotted s l (label-found s t h)))
-      (or-lined s false (fixedOn s l 18 (bytes ".center.")) _
-      (fixed-lined l 18 (bytes ".center.") refl (says-known 18 .so refl) refl refl refl (label-found s t))
+      or-lined s false (fixedOn s l fixComponent (bytes ".")) _
+      (fixed-lined l fixComponent (bytes ".") refl (says-known fixComponent .so refl) refl refl refl (λ h. dotted s l (label-found s t h)))
+      (or-lined s false (fixedOn s l fixCenter (bytes ".center.")) _
+      (fixed-lined l fixCenter (bytes ".center.") refl (says-known fixCenter .so refl) refl refl refl (label-found s t))
       (or-lined s false (assignOn s l) (firstOf s t order) (assign-lined l (label-found s t)) (first-lined order t all-rows)))
 
   instruction-lined : (t : Stand) → Lined s false (instructionOn s t)
   unfolding instructionOn
   instruction-lined t =
       let at = wsOn s t in
-      or-lined s false (declareOn s at 1) _ (declare-lined 1 at refl (says-known 1 .so refl) refl refl refl)
-      (or-lined s false (declareOn s at 2) _ (declare-lined 2 at refl (says-known 2 .so refl) refl refl refl)
-      (or-lined s false (declareOn s at 3) (labelFormsOn s at) (declare-lined 3 at refl (says-known 3 .so refl) refl refl refl) (label-forms-lined at)))
+      or-lined s false (declareOn s at newPoint) _ (declare-lined newPoint at refl (says-known newPoint .so refl) refl refl refl)
+      (or-lined s false (declareOn s at newCircle) _ (declare-lined newCircle at refl (says-known newCircle .so refl) refl refl refl)
+      (or-lined s false (declareOn s at newArc) (labelFormsOn s at) (declare-lined newArc at refl (says-known newArc .so refl) refl refl refl) (label-forms-lined at)))
 
   guessed-lined : (l : Label) (t : Stand) → (Reached t → Found s true l) → Lined s true (guessedOn s l t)
   unfolding guessedOn
@@ -307,11 +302,11 @@ module _ (s : List ℕ) where
       let p = pairOn s t in
       let n = numberOn s t in
       let on = kept-behind s t in
-      either-of (Lined s true) (p .then) (lineOf (labelled 24 0 l (p .x) (p .y) ∷ []) (p .then)) (lineOf (labelled 25 0 l (n .bits) 0 ∷ []) (n .then))
-      (one-lined s true (labelled 24 0 l (p .x) (p .y)) (p .then)
-      (λ h. one-proper s true 24 0 (p .x) (p .y) l refl (says-known 24 .so refl) refl (omega arith, λ z. z) (λ e. absurd (omega (arith, e))) (λ e. absurd (e refl)) (pair-fit s t .0) (pair-fit s t .1) (f (pair-kept on (same t) .back h))))
-      (one-lined s true (labelled 25 0 l (n .bits) 0) (n .then)
-      (λ h. one-proper s true 25 0 (n .bits) 0 l refl (says-known 25 .so refl) refl (omega arith, λ z. z) (λ e. absurd (omega (arith, e))) (λ e. refl) (number-fit s t .bits-fit) small (f (on .number (same t) .back h))))
+      either-of (Lined s true) (p .then) (lineOf (labelled pairGuess 0 l (p .x) (p .y) ∷ []) (p .then)) (lineOf (labelled numberGuess 0 l (n .bits) 0 ∷ []) (n .then))
+      (one-lined s true (labelled pairGuess 0 l (p .x) (p .y)) (p .then)
+      (λ h. one-proper s true pairGuess 0 (p .x) (p .y) l refl (says-known pairGuess .so refl) refl (omega arith, λ z. z) (λ e. absurd (omega (arith, e))) (λ e. absurd (e refl)) (pair-fit s t .0) (pair-fit s t .1) (f (pair-kept on (same t) .back h))))
+      (one-lined s true (labelled numberGuess 0 l (n .bits) 0) (n .then)
+      (λ h. one-proper s true numberGuess 0 (n .bits) 0 l refl (says-known numberGuess .so refl) refl (omega arith, λ z. z) (λ e. absurd (omega (arith, e))) (λ e. refl) (number-fit s t .bits-fit) small (f (on .number (same t) .back h))))
 
   guess-lined : (t : Stand) → Lined s true (guessOn s t)
   unfolding guessOn

@@ -5,14 +5,16 @@ use Prim.Native.Nat.{ℕ}
 use lib.Dec.{eqb, ltb}
 use lib.ListN.{length, getD}
 use Rattle.ground.specs.Words.{bytes}
-use Rattle.text.specs.Text.{from, orStand, wsOn, wordOn, byteOn, labelOn, suffixedOn, dottedOn}
+use Rattle.text.specs.Text.{from, orStand, noLabel, wsOn, wordOn, byteOn, labelOn, suffixedOn, dottedOn}
 use Rattle.text.specs.declared.Stand.{Stand}
 use Rattle.text.specs.declared.Stand.the-variants.{Nothing}
 use Rattle.text.specs.declared.Label.{Label}
 use Rattle.number.specs.Number.{numberOn, exprOn}
 use Rattle.number.specs.declared.Number.{Number}
-use Rattle.record.specs.Kinds.{kindAt, wordOf, none, number, expression}
+use Rattle.record.specs.Kinds.{newPoint, newCircle, newArc, fixComponent, fixCenter, pairGuess, numberGuess, kindAt, wordOf, none, number, expression}
+use Rattle.record.specs.Record.{oneLabel}
 use Rattle.record.specs.Decode.{noRecord}
+use Rattle.record.specs.declared.View.{View}
 use Rattle.record.specs.declared.Record.{Record}
 use Rattle.forms.specs.declared.Line.{Line}
 use Rattle.forms.specs.declared.pieces.Side.{Side}
@@ -38,10 +40,13 @@ lineOf rs stand = record { records = from stand [] (λ next. rs); then = stand }
 abbrev pub orLine : Lines → Lines → Lines
 orLine first second = orStand (first .then) first second
 
+-- the part of the text that a label takes
+abbrev pub viewFrom : Label → View
+viewFrom l = record { start = l .start; len = l .len }
+
 -- a record with one label
 abbrev pub labelled : ℕ → ℕ → Label → ℕ → ℕ → Record
-labelled kind third l x y =
-    record { kind = kind; third = third; count = 1; start0 = l .start; len0 = l .len; start1 = 0; len1 = 0; start2 = 0; len2 = 0; start3 = 0; len3 = 0; x = x; y = y }
+labelled kind third l x y = oneLabel kind third (viewFrom l) x y
 
 -- ---- pieces
 
@@ -93,14 +98,14 @@ unfoldable pub assignOn : List ℕ → Label → Lines
 assignOn s first =
     let l = suffixedOn s first in
     let p = pairOn s (equalsOn s (l .then)) in
-    lineOf (labelled 4 1 l (p .x) 0 ∷ labelled 4 2 l (p .y) 0 ∷ []) (p .then)
+    lineOf (labelled fixComponent 1 l (p .x) 0 ∷ labelled fixComponent 2 l (p .y) 0 ∷ []) (p .then)
 
 -- ---- the keyword forms, by their rows in the table
 
 -- one more label behind a comma, where there is one
 unfoldable pub moreOn : List ℕ → Stand → Bool → Label
 moreOn s stand true = labelOn s (commasepOn s stand)
-moreOn s stand false = record { start = 0; len = 0; then = stand }
+moreOn s stand false = noLabel stand
 
 -- `parse_angle`: a number, then `deg` or `rad`
 unfoldable pub angleOn : List ℕ → Stand → Amount
@@ -136,22 +141,8 @@ keywordOn s stand kind =
     let c = moreOn s (b .then) (ltb 2 (k .labels)) in
     let d = moreOn s (c .then) (ltb 3 (k .labels)) in
     let n = amountOn s (d .then) (k .number) in
-    lineOf
-    (record {
-      kind = kind;
-      third = n .third;
-      count = k .labels;
-      start0 = a .start;
-      len0 = a .len;
-      start1 = b .start;
-      len1 = b .len;
-      start2 = c .start;
-      len2 = c .len;
-      start3 = d .start;
-      len3 = d .len;
-      x = n .bits;
-      y = 0;
-    } ∷ [])
+    let views = viewFrom a ∷ viewFrom b ∷ viewFrom c ∷ viewFrom d ∷ [] in
+    lineOf (record { kind = kind; third = n .third; count = k .labels; labels = views; x = n .bits; y = 0 } ∷ [])
     (byteOn s (gapOn s (n .then) (k .gap)) 41)
 
 -- the keyword forms in the order of parser.rs
@@ -169,8 +160,8 @@ firstOf s stand (k ∷ ks) = orLine (keywordOn s stand k) (firstOf s stand ks)
 unfoldable pub labelFormsOn : List ℕ → Stand → Lines
 labelFormsOn s stand =
     let l = labelOn s stand in
-    orLine (fixedOn s l 4 (bytes "."))
-    (orLine (fixedOn s l 18 (bytes ".center."))
+    orLine (fixedOn s l fixComponent (bytes "."))
+    (orLine (fixedOn s l fixCenter (bytes ".center."))
     (orLine (assignOn s l)
     (firstOf s stand order)))
 
@@ -178,9 +169,9 @@ labelFormsOn s stand =
 unfoldable pub instructionOn : List ℕ → Stand → Lines
 instructionOn s stand =
     let at = wsOn s stand in
-    orLine (declareOn s at 1)
-    (orLine (declareOn s at 2)
-    (orLine (declareOn s at 3)
+    orLine (declareOn s at newPoint)
+    (orLine (declareOn s at newCircle)
+    (orLine (declareOn s at newArc)
     (labelFormsOn s at)))
 
 -- behind a guess's label: a point pair, else a number
@@ -188,7 +179,7 @@ unfoldable pub guessedOn : List ℕ → Label → Stand → Lines
 guessedOn s l stand =
     let p = pairOn s stand in
     let n = numberOn s stand in
-    orStand (p .then) (lineOf (labelled 24 0 l (p .x) (p .y) ∷ []) (p .then)) (lineOf (labelled 25 0 l (n .bits) 0 ∷ []) (n .then))
+    orStand (p .then) (lineOf (labelled pairGuess 0 l (p .x) (p .y) ∷ []) (p .then)) (lineOf (labelled numberGuess 0 l (n .bits) 0 ∷ []) (n .then))
 
 -- `parse_guess`: spaces, L or L.L, spaces, `roughly`, spaces, and its numbers
 unfoldable pub guessOn : List ℕ → Stand → Lines

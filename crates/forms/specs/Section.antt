@@ -9,14 +9,10 @@ use Rattle.text.specs.Text.{from, refusedAt, orStand, due, newlineOn}
 use Rattle.text.specs.declared.Stand.{Stand}
 use Rattle.text.specs.declared.Stand.the-variants.{At}
 use Rattle.store.specs.Store.{room, written}
-use Rattle.record.specs.Record.{recordBytes, encode}
+use Rattle.record.specs.Record.{recordBytes, longestText, encode}
 use Rattle.record.specs.declared.Record.{Record}
 use Rattle.forms.specs.declared.Count.{Count}
 use Rattle.forms.specs.Forms.{Lines, noLine, lineOn}
-
--- a text has at most so many bytes
-abbrev pub longestText : ℕ
-longestText = 32768
 
 -- ---- lines behind one another
 

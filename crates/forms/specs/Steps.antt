@@ -8,7 +8,7 @@ use lib.ListN.{length}
 use Rattle.ground.specs.Words.{bytes}
 use Rattle.text.specs.declared.Stand.{Stand}
 use Rattle.text.specs.declared.Label.{Label}
-use Rattle.record.specs.Kinds.{wordOf}
+use Rattle.record.specs.Kinds.{newPoint, newCircle, newArc, fixComponent, fixCenter, wordOf}
 use Rattle.record.specs.declared.Record.{Record}
 use Rattle.forms.specs.declared.pieces.Parsed.{Parsed}
 use Rattle.forms.specs.declared.declarations.Declared.{Declared}
@@ -19,22 +19,7 @@ use Rattle.forms.specs.Section.{stored}
 
 -- a record with another third byte and number
 abbrev pub component : Record → ℕ → ℕ → Record
-component r third x =
-    record {
-      kind = r .kind;
-      third = third;
-      count = r .count;
-      start0 = r .start0;
-      len0 = r .len0;
-      start1 = r .start1;
-      len1 = r .len1;
-      start2 = r .start2;
-      len2 = r .len2;
-      start3 = r .start3;
-      len3 = r .len3;
-      x = x;
-      y = 0;
-    }
+component r third x = record { kind = r .kind; third = third; count = r .count; labels = r .labels; x = x; y = 0 }
 
 -- one record, or two: x then y
 abbrev pub recordsOf : Parsed → List Record
@@ -53,11 +38,11 @@ pub record Stored (d : List ℕ) (n : ℕ) (rs : List Record) (next : ℕ) (d′
 
 -- the declarations
 abbrev pub declarationOn : List ℕ → Stand → Lines
-declarationOn s stand = orLine (declareOn s stand 1) (orLine (declareOn s stand 2) (declareOn s stand 3))
+declarationOn s stand = orLine (declareOn s stand newPoint) (orLine (declareOn s stand newCircle) (declareOn s stand newArc))
 
 -- the line of a declaration
 abbrev pub declared : Declared → Lines
-declared d = lineOf (labelled (d .kind) 0 (record { start = d .start; len = d .len; then = d .then }) 0 0 ∷ []) (d .then)
+declared d = lineOf (labelled (d .kind) 0 (d .label) 0 0 ∷ []) (d .label .then)
 
 -- an assignment, then the keyword forms
 abbrev pub assignedOn : List ℕ → Stand → Label → Lines
@@ -65,7 +50,7 @@ assignedOn s at l = orLine (assignOn s l) (firstOf s at order)
 
 -- the forms that begin with a label, which was read, then the keyword forms
 abbrev pub behindOn : List ℕ → Stand → Label → Lines
-behindOn s at l = orLine (fixedOn s l 4 (bytes ".")) (orLine (fixedOn s l 18 (bytes ".center.")) (assignedOn s at l))
+behindOn s at l = orLine (fixedOn s l fixComponent (bytes ".")) (orLine (fixedOn s l fixCenter (bytes ".center.")) (assignedOn s at l))
 
 -- a word may begin with a byte
 abbrev pub opens : ℕ → List ℕ → Bool

@@ -8,16 +8,15 @@ ghost use Rattle.record.specs.Kinds.{wordOf};
 ghost use Rattle.forms.specs.Forms.{declareOn};
 ghost use Rattle.forms.specs.Steps.{declarationOn, declared};
 use crate::keywords;
+use crate::pieces;
 use record::kinds;
 use text::Label;
 use text::Stand;
 
-// A declaration: its kind, its label, and where reading stands behind it.
+// A declaration: its kind and its label.
 pub struct Declared {
     pub kind: u8,
-    pub start: usize,
-    pub len: usize,
-    pub then: Stand,
+    pub label: Label,
 }
 
 // The label behind the word of a declaration; the space between them may be missing.
@@ -36,19 +35,13 @@ fn declare(text: &[u8], at: usize, kind: u8) -> Declared
     if !keywords::may_stand(text, Stand::At(at), kind) {
         return Declared {
             kind,
-            start: 0,
-            len: 0,
-            then: Stand::Nothing,
+            label: pieces::no_label(Stand::Nothing),
         };
     }
     let s = keywords::keyword(text, Stand::At(at), kinds::word_of(kind));
-    let l = label_behind(text, s);
-    let then = l.then;
     Declared {
         kind,
-        start: l.start,
-        len: l.len,
-        then,
+        label: label_behind(text, s),
     }
 }
 
@@ -58,18 +51,16 @@ pub(crate) fn declaration(text: &[u8], at: usize) -> Declared
 {
     let b = text::byte_at(text, at);
     if b == b'p' {
-        return declare(text, at, 1);
+        return declare(text, at, kinds::NEW_POINT);
     }
     if b == b'c' {
-        return declare(text, at, 2);
+        return declare(text, at, kinds::NEW_CIRCLE);
     }
     if b == b'a' {
-        return declare(text, at, 3);
+        return declare(text, at, kinds::NEW_ARC);
     }
     Declared {
         kind: 0,
-        start: 0,
-        len: 0,
-        then: Stand::Nothing,
+        label: pieces::no_label(Stand::Nothing),
     }
 }

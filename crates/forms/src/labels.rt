@@ -7,6 +7,7 @@ ghost use Rattle.forms.specs.Steps.{meant, assignedOn, behindOn};
 use crate::keywords;
 use crate::pieces;
 use crate::pieces::Parsed;
+use record::kinds;
 use text::Label;
 use text::Stand;
 
@@ -22,7 +23,7 @@ fn fix_component(text: &[u8], l: Label, kind: u8, between: &[u8]) -> Parsed
     let n = number::parse_number(text, s);
     let then = n.then;
     Parsed {
-        first: pieces::one_label(kind, c.third, l, n.bits, 0),
+        first: pieces::labelled(kind, c.third, l, n.bits, 0),
         two: false,
         then,
     }
@@ -38,7 +39,7 @@ fn assign_point(text: &[u8], first: Label) -> Parsed
     let p = pieces::parse_point(text, s);
     let then = p.then;
     Parsed {
-        first: pieces::one_label(4, 1, l, p.x, p.y),
+        first: pieces::labelled(kinds::FIX_COMPONENT, 1, l, p.x, p.y),
         two: true,
         then,
     }
@@ -62,12 +63,12 @@ fn dotted_forms(text: &[u8], at: usize, l: Label, kinds: &[[u8; 8]; 26]) -> Pars
     requires { ⌜ now kinds ≡ table ⌝ }
     ensures { λ r. ⌜ meant r ≡ behindOn (now (text .entry)) (At at) l ⌝ }
 {
-    let line = fix_component(text, l, 4, b".");
+    let line = fix_component(text, l, kinds::FIX_COMPONENT, b".");
     let then = line.then;
     let Stand::Nothing = then else {
         return line;
     };
-    let line = fix_component(text, l, 18, b".center.");
+    let line = fix_component(text, l, kinds::FIX_CENTER, b".center.");
     let then = line.then;
     let Stand::Nothing = then else {
         return line;

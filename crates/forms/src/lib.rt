@@ -14,9 +14,6 @@ use record::kinds::KINDS;
 use refusal::Refusal;
 use text::Stand;
 
-// The most bytes of a text.
-pub const LONGEST_TEXT: usize = 32_768;
-
 // A line: how many records it has, the first and the second, each no record where there is none, and where reading stands behind it.
 pub struct Line {
     pub count: usize,
@@ -53,7 +50,7 @@ pub fn read_section(
     ensures { λ r. ⌜ SectionRead (now (own .entry)) start (sectionOn guesses (now (text .entry)) stand number) r (now (own .exit)) ⌝ }
 {
     let start = start as usize;
-    if LONGEST_TEXT < text.len() {
+    if record::LONGEST < text.len() {
         return Count {
             count: start,
             then: Stand::Refused(Refusal {

@@ -9,6 +9,7 @@ use crate::labels;
 use crate::pieces;
 use crate::pieces::Parsed;
 use record::Record;
+use record::kinds;
 use text::Label;
 use text::Stand;
 
@@ -22,15 +23,11 @@ fn parse_instruction(text: &[u8], stand: Stand, kinds: &[[u8; 8]; 26]) -> Parsed
         return pieces::no_line(s);
     };
     let d = declarations::declaration(text, at);
-    let then = d.then;
+    let l = d.label;
+    let then = l.then;
     let Stand::Nothing = then else {
-        let l = Label {
-            start: d.start,
-            len: d.len,
-            then,
-        };
         return Parsed {
-            first: pieces::one_label(d.kind, 0, l, 0, 0),
+            first: pieces::labelled(d.kind, 0, l, 0, 0),
             two: false,
             then,
         };
@@ -46,7 +43,7 @@ fn guessed(text: &[u8], l: Label, stand: Stand) -> Parsed
     let then = p.then;
     let Stand::Nothing = then else {
         return Parsed {
-            first: pieces::one_label(24, 0, l, p.x, p.y),
+            first: pieces::labelled(kinds::PAIR_GUESS, 0, l, p.x, p.y),
             two: false,
             then,
         };
@@ -54,7 +51,7 @@ fn guessed(text: &[u8], l: Label, stand: Stand) -> Parsed
     let n = number::parse_number(text, stand);
     let then = n.then;
     Parsed {
-        first: pieces::one_label(25, 0, l, n.bits, 0),
+        first: pieces::labelled(kinds::NUMBER_GUESS, 0, l, n.bits, 0),
         two: false,
         then,
     }
@@ -88,18 +85,12 @@ pub(crate) fn line_at(text: &[u8], stand: Stand, guess: bool, kinds: &[[u8; 8]; 
 pub(crate) fn with_component(r: Record, third: u8, x: u64) -> Record
     ensures { λ c. ⌜ c ≡ component r third x ⌝ }
 {
+    let labels = r.labels;
     Record {
         kind: r.kind,
         third,
         count: r.count,
-        start0: r.start0,
-        len0: r.len0,
-        start1: r.start1,
-        len1: r.len1,
-        start2: r.start2,
-        len2: r.len2,
-        start3: r.start3,
-        len3: r.len3,
+        labels,
         x,
         y: 0,
     }
@@ -114,8 +105,8 @@ pub(crate) fn hand_out(line: Parsed) -> Line
     let Stand::At(_) = then else {
         return Line {
             count: 0,
-            first: pieces::no_record(),
-            second: pieces::no_record(),
+            first: record::no_record(),
+            second: record::no_record(),
             then,
         };
     };
@@ -130,7 +121,7 @@ pub(crate) fn hand_out(line: Parsed) -> Line
     Line {
         count: 1,
         first,
-        second: pieces::no_record(),
+        second: record::no_record(),
         then,
     }
 }

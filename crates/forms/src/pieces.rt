@@ -1,9 +1,10 @@
 // What forms are made of: bytes with spaces around them, one of two words, point pairs, labels behind commas, numbers of a row's sort.
 ghost use mathlib.Core.Path.{_≡_};
-ghost use Rattle.record.specs.Decode.{noRecord};
-ghost use Rattle.forms.specs.Forms.{labelled, aroundOn, eitherOn, componentOn, pairOn, moreOn, angleOn, plainAmount, amountOn, gapOn};
+ghost use Rattle.text.specs.Text.{noLabel};
+ghost use Rattle.forms.specs.Forms.{viewFrom, labelled, aroundOn, eitherOn, componentOn, pairOn, moreOn, angleOn, plainAmount, amountOn, gapOn};
 use number::Number;
 use record::Record;
+use record::View;
 use record::kinds;
 use text::Label;
 use text::Stand;
@@ -35,57 +36,43 @@ pub struct Amount {
     pub then: Stand,
 }
 
-// No record: there is no kind 0.
-pub(crate) fn no_record() -> Record
-    ensures { λ r. ⌜ r ≡ noRecord ⌝ }
-{
-    Record {
-        kind: 0,
-        third: 0,
-        count: 0,
-        start0: 0,
-        len0: 0,
-        start1: 0,
-        len1: 0,
-        start2: 0,
-        len2: 0,
-        start3: 0,
-        len3: 0,
-        x: 0,
-        y: 0,
-    }
-}
-
 // No line: where reading stands instead.
 pub(crate) fn no_line(then: Stand) -> Parsed
     ensures { λ r. ⌜ r .then ≡ then ⌝ }
 {
     Parsed {
-        first: no_record(),
+        first: record::no_record(),
         two: false,
         then,
     }
 }
 
+// No label: where reading stands instead.
+pub(crate) fn no_label(then: Stand) -> Label
+    ensures { λ r. ⌜ r ≡ noLabel then ⌝ }
+{
+    Label {
+        start: 0,
+        len: 0,
+        then,
+    }
+}
+
+// The part of the text that a label takes.
+pub(crate) fn view_from(l: Label) -> View
+    ensures { λ r. ⌜ r ≡ viewFrom l ⌝ }
+{
+    View {
+        start: l.start,
+        len: l.len,
+    }
+}
+
 // A record with one label.
-pub(crate) fn one_label(kind: u8, third: u8, l: Label, x: u64, y: u64) -> Record
+pub(crate) fn labelled(kind: u8, third: u8, l: Label, x: u64, y: u64) -> Record
     ensures { λ r. ⌜ r ≡ labelled kind third l x y ⌝ }
 {
-    Record {
-        kind,
-        third,
-        count: 1,
-        start0: l.start,
-        len0: l.len,
-        start1: 0,
-        len1: 0,
-        start2: 0,
-        len2: 0,
-        start3: 0,
-        len3: 0,
-        x,
-        y,
-    }
+    record::one_label(kind, third, view_from(l), x, y)
 }
 
 // A byte, with spaces around it.
@@ -148,11 +135,7 @@ pub(crate) fn more(text: &[u8], stand: Stand, on: bool) -> Label
         let s = around(text, stand, b',');
         return text::parse_label(text, s);
     }
-    Label {
-        start: 0,
-        len: 0,
-        then: stand,
-    }
+    no_label(stand)
 }
 
 // A number, then `deg` or `rad`.

@@ -2,8 +2,9 @@
 ghost use mathlib.Core.Path.{_≡_};
 ghost use Prim.Native.Nat.{_≤_};
 ghost use lib.ListN.{length};
+ghost use Rattle.record.specs.Record.{longestText};
 ghost use Rattle.record.specs.Kinds.{table};
-ghost use Rattle.forms.specs.Section.{longestText, linesOn, store, SectionRead};
+ghost use Rattle.forms.specs.Section.{linesOn, store, SectionRead};
 ghost use Rattle.forms.specs.Steps.{recordsOf, Stored};
 use crate::Count;
 use crate::lines;

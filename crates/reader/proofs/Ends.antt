@@ -12,15 +12,14 @@ use Rattle.text.specs.declared.Stand.{Stand}
 use Rattle.text.specs.declared.Stand.the-variants.{At, Nothing, Refused}
 use Rattle.store.specs.Store.{room, written}
 use Rattle.store.proofs.Laws.{written-first}
-use Rattle.record.specs.Record.{recordBytes, encodeAll}
+use Rattle.record.specs.Record.{recordBytes, mostRecords, longestText, encodeAll}
 use Rattle.record.proofs.Back.{count-all}
 use Rattle.reader.specs.declared.Reading.{Reading}
 use Rattle.reader.specs.declared.Reading.the-variants as reading
-use Rattle.forms.specs.Section.{longestText, linesOn, stored, SectionRead}
-use Rattle.forms.specs.declared.Count.{Count}
-use Rattle.forms.proofs.Storing.{stored-append, stored-all}
+use Rattle.forms.specs.Section.{stored}
+use Rattle.forms.proofs.Storing.{stored-all}
 use Rattle.forms.proofs.SoundSection.{lines-due}
-use Rattle.reader.specs.Page.{mostRecords, headingOn, optNewlineOn, highAt, refused, toldOf, endedOf, problemOf, readingOf, recordsIn, writtenBy, bufferAfter, Reads}
+use Rattle.reader.specs.Page.{highAt, refused, toldOf, endedOf, problemOf, readingOf, recordsIn, writtenBy, bufferAfter, Reads}
 use Rattle.reader.specs.Steps.{Paged, Ended}
 
 -- ---- how many records a page can have

@@ -10,8 +10,9 @@ use Rattle.ground.specs.Words.{bytes}
 use Rattle.text.specs.Text.{due, newlineOn, wsOn}
 use Rattle.text.specs.declared.Stand.{Stand}
 use Rattle.text.specs.declared.Stand.the-variants.{At}
+use Rattle.record.specs.Record.{longestText}
 use Rattle.forms.specs.declared.Count.{Count}
-use Rattle.forms.specs.Section.{longestText, linesOn, sectionOn, SectionRead}
+use Rattle.forms.specs.Section.{linesOn, sectionOn, SectionRead}
 use Rattle.forms.proofs.Storing.{stored-append}
 use Rattle.forms.proofs.SoundSection.{lines-due}
 use Rattle.reader.specs.Page.{headingOn, optNewlineOn, problemOf}

@@ -9,16 +9,12 @@ use Rattle.ground.specs.Words.{bytes}
 use Rattle.text.specs.Text.{orStand, due, runTo, wsOn, wordOn, byteOn, newlineOn}
 use Rattle.text.specs.declared.Stand.{Stand}
 use Rattle.text.specs.declared.Stand.the-variants.{At, Nothing, Refused}
-use Rattle.record.specs.Record.{recordBytes, encodeAll}
+use Rattle.record.specs.Record.{recordBytes, mostRecords, longestText, encodeAll}
 use Rattle.record.specs.declared.Record.{Record}
 use Rattle.record.specs.Entry.{Entry, entryOf}
-use Rattle.forms.specs.Section.{longestText, linesOn}
+use Rattle.forms.specs.Section.{linesOn}
 use Rattle.reader.specs.declared.Reading.{Reading}
 use Rattle.reader.specs.declared.Reading.the-variants as reading
-
--- a page has at most so many records
-abbrev pub mostRecords : ℕ
-mostRecords = 1800
 
 -- ---- the page
 

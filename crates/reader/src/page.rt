@@ -2,18 +2,12 @@
 ghost use mathlib.Core.Path.{_≡_};
 ghost use Prim.Native.Nat.{_≤_, _<_};
 ghost use lib.ListN.{length};
-ghost use Rattle.forms.specs.Section.{longestText};
+ghost use Rattle.record.specs.Record.{longestText};
 ghost use Rattle.reader.specs.Page.{headingOn, optNewlineOn, highAt, Reads, refused, toldOf};
 ghost use Rattle.reader.specs.Steps.{Paged, Ended};
 use crate::Reading;
 use refusal::Refusal;
 use text::Stand;
-
-// The most records of a page.
-const MOST_RECORDS: usize = 1_800;
-
-// Room for the most records.
-const ROOM: usize = 50_400;
 
 // How many records a page has of each sort, and where reading stands in the end.
 pub(crate) struct Page {
@@ -124,7 +118,7 @@ fn tell(text: &[u8], page: Page, whole: bool, bytes: usize, end: usize) -> Readi
     if whole & (end < text.len()) {
         return refused(10, end);
     }
-    if MOST_RECORDS < count {
+    if record::MOST < count {
         return refused(11, 0);
     }
     if bytes < record::SIZE * count {
@@ -138,10 +132,10 @@ fn tell(text: &[u8], page: Page, whole: bool, bytes: usize, end: usize) -> Readi
 }
 
 // Zeros for the most records.
-fn room() -> [u8; ROOM]
+fn room() -> [u8; record::ROOM]
     ensures { λ r. ⌜ 50400 ≡ length r ⌝ }
 {
-    [0; ROOM]
+    [0; record::ROOM]
 }
 
 // Reads a page into the reader's own buffer, and copies its records where they fit.
@@ -176,7 +170,7 @@ fn read_into(text: &[u8], records: &mut [u8], whole: bool) -> Reading
 pub(crate) fn read(text: &[u8], records: &mut [u8], whole: bool) -> Reading
     ensures { λ r. ⌜ Reads whole (now (text .entry)) (now (records .entry)) r (now (records .exit)) ⌝ }
 {
-    if forms::LONGEST_TEXT < text.len() {
+    if record::LONGEST < text.len() {
         return refused(1, 0);
     }
     let high = high_at(text);

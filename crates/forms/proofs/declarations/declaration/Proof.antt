@@ -23,9 +23,10 @@ returns-3 c =
 
 returns-4 : tie.Need-returns-4
 returns-4 c =
-    let a = c .before .before .before .before .before .args in
-    let b = c .before .before .before .byte-at in
-    none-declared (a .text .now) (a .at) (b .result) (sym (b .ensures)) (ne-eqb _ _ (c .before .before .if1 .left)) (ne-eqb _ _ (c .before .if2 .left)) (ne-eqb _ _ (c .if3 .left))
+    let a = c .before .before .before .before .before .before .args in
+    let b = c .before .before .before .before .byte-at in
+    rw (c .no-label .ensures)
+    (none-declared (a .text .now) (a .at) (b .result) (sym (b .ensures)) (ne-eqb _ _ (c .before .before .before .if1 .left)) (ne-eqb _ _ (c .before .before .if2 .left)) (ne-eqb _ _ (c .before .if3 .left)))
 
 pub declaration-spec : {M : Type 1} → statement M
-declaration-spec = tie.close (tie.spec (λ c κs. search needs) (λ c κs. search needs) returns (λ c κs. search needs) returns-2 (λ c κs. search needs) returns-3 returns-4)
+declaration-spec = tie.close (tie.spec (λ c κs. search needs) (λ c κs. search needs) returns (λ c κs. search needs) returns-2 (λ c κs. search needs) returns-3 (λ c κs. search needs) returns-4)

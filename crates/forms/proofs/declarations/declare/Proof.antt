@@ -12,8 +12,8 @@ use Rattle.forms.proofs.declarations.declare.Tie as tie
 
 returns : tie.Need-returns
 returns c =
-    let a = c .before .before .before .args in
-    sym (no-declaration (a .text .now) (At (a .at)) (a .kind) (c .before .may-stand .ensures (not-true _ (c .if1 .taken))))
+    let a = c .before .before .before .before .args in
+    rw (c .no-label .ensures) (sym (no-declaration (a .text .now) (At (a .at)) (a .kind) (c .before .before .may-stand .ensures (not-true _ (c .before .if1 .taken)))))
 
 keyword-requires : tie.Need-keyword-requires
 keyword-requires c κs = word-fits (wordOf (c .before .before .before .before .args .kind)) (c .word-of .result) (c .word-of .ensures)
@@ -25,4 +25,4 @@ returns-2 c =
     rw (← word-begins (wordOf (c .before .before .before .before .before .before .args .kind)) (word .result) (word .ensures), ← c .before .keyword .ensures, ← c .label-behind .ensures)
 
 pub declare-spec : {M : Type 1} → statement M
-declare-spec = tie.close (tie.spec (λ c κs. search needs) returns (λ c κs. search needs) keyword-requires (λ c κs. search needs) returns-2)
+declare-spec = tie.close (tie.spec (λ c κs. search needs) (λ c κs. search needs) returns (λ c κs. search needs) keyword-requires (λ c κs. search needs) returns-2)

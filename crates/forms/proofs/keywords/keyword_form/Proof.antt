@@ -13,28 +13,32 @@ keyword-requires c κs = word-fits (wordOf (c .before .before .before .args .kin
 returns : tie.Need-returns
 unfolding keywordOn
 returns c =
-    let start = c .before .before .before .before .before .before .before .before .before .before .before .before .before .before .before .before in
+    let start = c .before .before .before .before .before .before .before .before .before .before .before .before .before .before .before .before .before .before .before .before in
     let k = start .args .kind in
-    let labels = looked _ k _ _ (start .pre) (c .before .before .before .before .before .before .before .before .before .before .before .before .before .before .look .ensures) (labels-is k) in
-    let sort = looked _ k _ _ (start .pre) (c .before .before .before .before .look2 .ensures) (number-is k) in
-    let gap = looked-same _ k _ _ (start .pre) (c .before .before .look3 .ensures) with-gap (gap-is k) in
+    let labels = looked _ k _ _ (start .pre) (c .before .before .before .before .before .before .before .before .before .before .before .before .before .before .before .before .before .before .look .ensures) (labels-is k) in
+    let sort = looked _ k _ _ (start .pre) (c .before .before .before .before .before .before .before .before .look2 .ensures) (number-is k) in
+    let gap = looked-same _ k _ _ (start .pre) (c .before .before .before .before .before .before .look3 .ensures) with-gap (gap-is k) in
     rw (
       ← labels,
       ← sort,
       ← gap,
-      ← word-begins (wordOf k) (c .before .before .before .before .before .before .before .before .before .before .before .before .before .word-of .result) (c .before .before .before .before .before .before .before .before .before .before .before .before .before .word-of .ensures),
-      ← c .before .before .before .before .before .before .before .before .before .before .before .before .keyword .ensures,
-      ← c .before .before .before .before .before .before .before .before .before .before .before .ws .ensures,
-      ← c .before .before .before .before .before .before .before .before .before .before .byte .ensures,
-      ← c .before .before .before .before .before .before .before .before .before .ws2 .ensures,
-      ← c .before .before .before .before .before .before .before .before .parse-label .ensures,
-      ← c .before .before .before .before .before .before .before .more .ensures,
-      ← c .before .before .before .before .before .before .more2 .ensures,
-      ← c .before .before .before .before .before .more3 .ensures,
-      ← c .before .before .before .parse-amount .ensures,
-      ← c .before .gap .ensures,
-      ← c .byte2 .ensures,
+      ← word-begins (wordOf k) (c .before .before .before .before .before .before .before .before .before .before .before .before .before .before .before .before .before .word-of .result) (c .before .before .before .before .before .before .before .before .before .before .before .before .before .before .before .before .before .word-of .ensures),
+      ← c .before .before .before .before .before .before .before .before .before .before .before .before .before .before .before .before .keyword .ensures,
+      ← c .before .before .before .before .before .before .before .before .before .before .before .before .before .before .before .ws .ensures,
+      ← c .before .before .before .before .before .before .before .before .before .before .before .before .before .before .byte .ensures,
+      ← c .before .before .before .before .before .before .before .before .before .before .before .before .before .ws2 .ensures,
+      ← c .before .before .before .before .before .before .before .before .before .before .before .before .parse-label .ensures,
+      ← c .before .before .before .before .before .before .before .before .before .before .before .more .ensures,
+      ← c .before .before .before .before .before .before .before .before .before .before .more2 .ensures,
+      ← c .before .before .before .before .before .before .before .before .before .more3 .ensures,
+      ← c .before .before .before .before .before .before .before .parse-amount .ensures,
+      ← c .before .before .before .before .before .gap .ensures,
+      ← c .before .before .before .before .byte2 .ensures,
+      c .before .before .before .view-from .ensures,
+      c .before .before .view-from2 .ensures,
+      c .before .view-from3 .ensures,
+      c .view-from4 .ensures,
     )
 
 pub keyword-form-spec : {M : Type 1} → statement M
-keyword-form-spec = tie.close (tie.spec (λ c κs. search needs) (λ c κs. search needs) keyword-requires (λ c κs. search needs) (λ c κs. search needs) (λ c κs. search needs) (λ c κs. search needs) (λ c κs. search needs) (λ c κs. search needs) (λ c κs. search needs) (λ c κs. search needs) (λ c κs. search needs) (λ c κs. search needs) (λ c κs. search needs) (λ c κs. search needs) returns)
+keyword-form-spec = tie.close (tie.spec (λ c κs. search needs) (λ c κs. search needs) keyword-requires (λ c κs. search needs) (λ c κs. search needs) (λ c κs. search needs) (λ c κs. search needs) (λ c κs. search needs) (λ c κs. search needs) (λ c κs. search needs) (λ c κs. search needs) (λ c κs. search needs) (λ c κs. search needs) (λ c κs. search needs) (λ c κs. search needs) (λ c κs. search needs) (λ c κs. search needs) (λ c κs. search needs) (λ c κs. search needs) returns)

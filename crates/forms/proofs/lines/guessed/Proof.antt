@@ -9,7 +9,7 @@ returns : tie.Need-returns
 unfolding guessedOn
 returns c =
     let p = c .before .before .parse-point in
-    rw (← p .ensures, c .one-label .ensures) (taken (p .result .then) _ _ (c .before .match .keys2))
+    rw (← p .ensures, c .labelled .ensures) (taken (p .result .then) _ _ (c .before .match .keys2))
 
 returns-2 : tie.Need-returns-2
 unfolding guessedOn
@@ -18,7 +18,7 @@ returns-2 c =
       ← c .before .before .before .before .parse-point .ensures,
       c .before .before .enum-told .given .1,
       ← c .before .parse-number .ensures,
-      c .one-label2 .ensures,
+      c .labelled2 .ensures,
     )
 
 pub guessed-spec : {M : Type 1} → statement M

@@ -14,23 +14,23 @@ returns c =
 
 returns-2 : tie.Need-returns-2
 returns-2 c =
-    let d = c .before .before .declaration in
+    let d = c .before .before .before .declaration in
     rw (
       by-declaration,
-      ← c .before .before .before .before .before .before .ws .ensures,
-      c .before .before .before .before .s .given .1,
+      ← c .before .before .before .before .before .before .before .ws .ensures,
+      c .before .before .before .before .before .s .given .1,
       ← d .ensures,
-      c .one-label .ensures,
+      c .labelled .ensures,
     )
-    (taken (d .result .then) _ _ (c .before .match2 .keys2))
+    (taken (d .result .label .then) _ _ (c .before .match2 .keys2))
 
 returns-3 : tie.Need-returns-3
 returns-3 c =
     rw (
       by-declaration,
-      ← c .before .before .before .before .before .before .before .ws .ensures,
-      c .before .before .before .before .before .s .given .1,
-      ← c .before .before .before .declaration .ensures,
+      ← c .before .before .before .before .before .before .before .before .ws .ensures,
+      c .before .before .before .before .before .before .s .given .1,
+      ← c .before .before .before .before .declaration .ensures,
       c .before .enum-told .given .1,
     )
     (c .label-forms .ensures)
