@@ -14,7 +14,6 @@ use Rattle.refusal.specs.Refusal.{refusal}
 use Rattle.refusal.specs.First.{passed, refused, tell, first, lowest, orElse}
 use Rattle.refusal.proofs.Search.{none-iff}
 use Rattle.record.specs.declared.formed.Formed.the-variants as formed
-use Rattle.record.specs.Record.{mostRecords}
 use Rattle.record.specs.Kinds.{newPoint, newCircle, newArc, firstRule, lastRule, pairGuess, numberGuess}
 use Rattle.record.specs.Decode.{countOf, decodeAt}
 use Rattle.record.specs.Entry.{Entry, noEntry}
@@ -23,11 +22,8 @@ use Rattle.record.specs.Formed.{WellFormed, entries, Malformed, places, malform
 use Rattle.record.proofs.Told.{says-malformed, passed-iff}
 use Rattle.record.proofs.WellFormed.{well-formed-iff}
 use Rattle.index.specs.Labels.{drawn, kindNo, within, lowestOr}
-use Rattle.index.specs.Chains.{chains, Made, Chained}
 use Rattle.index.proofs.Drawn.{drawn-length, drawn-kind, entries-drawn}
 use Rattle.index.proofs.First.{is-some, is-none}
-use Rattle.index.proofs.Links.{room-so}
-use Rattle.index.proofs.Found.{made-chained}
 use Rattle.drawing.specs.declared.Checked.the-variants as checked
 use Rattle.drawing.specs.Faults as faults
 use faults.{Fault, malformed, behind30, numberOf}
@@ -133,13 +129,6 @@ module _ (text bs : List ℕ) (w : WellFormed text bs) where
       ap (λ (o : Option ℕ). tell malformed o (first behind30 (test es) (places es))) never
       ∙ shorter es
       ∙ ap (first behind30 (test es)) (drawn-length text bs)
-
-  -- the chains of a kind from low to high, made in tables of the lengths that the check has
-  pub chained : {low high : ℕ} {hs ns hs′ ns′ : List ℕ} {answer : Bool} → Made (drawn text bs) low high hs ns answer hs′ ns′ → length hs ≡ chains → length ns ≡ mostRecords
-      → Chained (drawn text bs) low high hs′ ns′
-  chained {hs = hs} {ns = ns} m eh en =
-      let n : length (drawn text bs) ≤ mostRecords = omega (arith, w .few, drawn-length text bs) in
-      made-chained m (m .told ∙ room-so (length (drawn text bs)) (length hs) (length ns) (omega arith) eh (omega arith))
 
   -- a fault behind 30 that is told
   pub told-behind : (k i : ℕ) → k < length behind30 → checkOf (drawn text bs) ≡ refused (faultAt k) i

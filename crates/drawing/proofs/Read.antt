@@ -63,13 +63,13 @@ module _ (text bs : List ℕ) (i kind : ℕ) (k : kind ≡ decodeAt bs i .kind) 
     twice-no e = rw (kind-is, e) refl
 
     -- what is found by the record's own label stands before it
-    pub twice-yes : (hs ns : List ℕ) → Chained (drawn text bs) low high hs ns → i < countOf bs → (name : Label) (r : ℕ)
-        → within low high kind ≡ true → name ≡ labelNo (entryOf text (decodeAt bs i)) 0 → r ≡ walkOf (drawn text bs) low high hs ns name
+    pub twice-yes : (cs : List ℕ) → Chained (drawn text bs) low high cs → i < countOf bs → (name : Label) (r : ℕ)
+        → within low high kind ≡ true → name ≡ labelNo (entryOf text (decodeAt bs i)) 0 → r ≡ walkOf (drawn text bs) low high cs name
         → ltb r i ≡ twice (drawn text bs) low high i
     unfolding twice
-    twice-yes hs ns c h name r e n er =
+    twice-yes cs c h name r e n er =
         rw (kind-is, e, label-is 0 name n, er)
-        (found-below (drawn text bs) low high low high hs ns name c (omega arith) (omega arith) i (omega (arith, h, drawn-length text bs)))
+        (found-below (drawn text bs) low high low high cs name c (omega arith) (omega arith) i (omega (arith, h, drawn-length text bs)))
 
   pub wrong-label-no : within firstRule lastRule kind ≡ false → false ≡ wrongLabelTest (drawn text bs) i
   unfolding wrongLabelTest
@@ -111,10 +111,10 @@ module _ (text bs : List ℕ) (i kind : ℕ) (k : kind ≡ decodeAt bs i .kind) 
 -- ---- what is found by the chains
 
 -- a record of this kind with this label is found exactly if there is one
-found-any : (text bs : List ℕ) (lo hi kind : ℕ) (hs ns : List ℕ) (l : Label) (r : ℕ) → Chained (drawn text bs) lo hi hs ns → lo ≤ kind → kind ≤ hi
-    → r ≡ walkOf (drawn text bs) kind kind hs ns l → ltb r (countOf bs) ≡ anyBelow (length (drawn text bs)) (labelled (drawn text bs) kind kind l)
-found-any text bs lo hi kind hs ns l r c a b e =
-    rw (e, ← drawn-length text bs) (found-below (drawn text bs) lo hi kind kind hs ns l c a b (length (drawn text bs)) (omega arith))
+found-any : (text bs : List ℕ) (lo hi kind : ℕ) (cs : List ℕ) (l : Label) (r : ℕ) → Chained (drawn text bs) lo hi cs → lo ≤ kind → kind ≤ hi
+    → r ≡ walkOf (drawn text bs) kind kind cs l → ltb r (countOf bs) ≡ anyBelow (length (drawn text bs)) (labelled (drawn text bs) kind kind l)
+found-any text bs lo hi kind cs l r c a b e =
+    rw (e, ← drawn-length text bs) (found-below (drawn text bs) lo hi kind kind cs l c a b (length (drawn text bs)) (omega arith))
 
 module _ (es : List Entry) (kind : ℕ) (suffix l : Label) where
   -- no label with the suffix behind it is l
@@ -143,14 +143,14 @@ module _ (es : List Entry) (kind : ℕ) (suffix l : Label) where
   unfolding guessed guessAt labelled
   guessed-is = any-same _ _ (length es) (λ j. rw (within-one kind (kindNo es j)) refl)
 
-module _ (text bs : List ℕ) (hs ns : List ℕ) (kind : ℕ) (suffix l : Label) (r : ℕ) where
-  pub named-found : (front : Label) → front ++ suffix ≡ l → Chained (drawn text bs) newPoint newArc hs ns → newPoint ≤ kind → kind ≤ newArc
-      → r ≡ walkOf (drawn text bs) kind kind hs ns front → ltb r (countOf bs) ≡ named (drawn text bs) kind suffix l
-  named-found front e c a b er = found-any text bs newPoint newArc kind hs ns front r c a b er ∙ named-is (drawn text bs) kind suffix l front e
+module _ (text bs : List ℕ) (cs : List ℕ) (kind : ℕ) (suffix l : Label) (r : ℕ) where
+  pub named-found : (front : Label) → front ++ suffix ≡ l → Chained (drawn text bs) newPoint newArc cs → newPoint ≤ kind → kind ≤ newArc
+      → r ≡ walkOf (drawn text bs) kind kind cs front → ltb r (countOf bs) ≡ named (drawn text bs) kind suffix l
+  named-found front e c a b er = found-any text bs newPoint newArc kind cs front r c a b er ∙ named-is (drawn text bs) kind suffix l front e
 
-  pub guessed-found : Chained (drawn text bs) pairGuess numberGuess hs ns → pairGuess ≤ kind → kind ≤ numberGuess
-      → r ≡ walkOf (drawn text bs) kind kind hs ns (l ++ suffix) → ltb r (countOf bs) ≡ guessed (drawn text bs) kind suffix l
-  guessed-found c a b er = found-any text bs pairGuess numberGuess kind hs ns (l ++ suffix) r c a b er ∙ guessed-is (drawn text bs) kind suffix l
+  pub guessed-found : Chained (drawn text bs) pairGuess numberGuess cs → pairGuess ≤ kind → kind ≤ numberGuess
+      → r ≡ walkOf (drawn text bs) kind kind cs (l ++ suffix) → ltb r (countOf bs) ≡ guessed (drawn text bs) kind suffix l
+  guessed-found c a b er = found-any text bs pairGuess numberGuess kind cs (l ++ suffix) r c a b er ∙ guessed-is (drawn text bs) kind suffix l
 
 -- ---- what a code needs
 

@@ -16,7 +16,7 @@ abbrev pub testNo : List Entry → ℕ → ℕ → Bool
 testNo es = byNumber numberOf (test es) (λ i. false) behind30
 
 -- the table of kinds, the chains of the declarations, and those of the guesses
-pub record CheckTables (es : List Entry) (kinds : List (List ℕ)) (heads nexts guess-heads guess-nexts : List ℕ) : Type 0 where
+pub record CheckTables (es : List Entry) (kinds : List (List ℕ)) (chains guess-chains : List ℕ) : Type 0 where
   pub kinds-are : kinds ≡ table
-  pub declared : Chained es newPoint newArc heads nexts
-  pub guessed : Chained es pairGuess numberGuess guess-heads guess-nexts
+  pub declared : Chained es newPoint newArc chains
+  pub guessed : Chained es pairGuess numberGuess guess-chains

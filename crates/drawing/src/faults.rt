@@ -50,12 +50,11 @@ fn any_wrong(
     kinds: &[[u8; 8]; 26],
     text: &[u8],
     records: &[u8],
-    heads: &[u16],
-    nexts: &[u16],
+    chains: &[u16],
     kind: u8,
     i: usize,
 ) -> bool
-    requires { ⌜ (now kinds ≡ table) × Chained (drawn (now text) (now records)) newPoint newArc (now heads) (now nexts) × Rule kind × (kind ≡ decodeAt (now records) i .kind) ⌝ }
+    requires { ⌜ (now kinds ≡ table) × Chained (drawn (now text) (now records)) newPoint newArc (now chains) × Rule kind × (kind ≡ decodeAt (now records) i .kind) ⌝ }
     ensures { λ r. ⌜ r ≡ anyBelow (kindAt kind .labels) (wrongPlace (drawn (now (text .entry)) (now (records .entry))) i) ⌝ }
 {
     let n = look(kinds, kind, LABELS) as usize;
@@ -63,7 +62,7 @@ fn any_wrong(
     while q < n {
         let label = label_at(text, records, i, q);
         let code = code_at(kinds, kind, q);
-        if !meets(text, records, heads, nexts, code, label) {
+        if !meets(text, records, chains, code, label) {
             return true;
         }
         q += 1;
@@ -72,20 +71,13 @@ fn any_wrong(
 }
 
 // 32 at record i.
-fn wrong_label(
-    kinds: &[[u8; 8]; 26],
-    text: &[u8],
-    records: &[u8],
-    heads: &[u16],
-    nexts: &[u16],
-    i: usize,
-) -> bool
-    requires { ⌜ (now kinds ≡ table) × Chained (drawn (now text) (now records)) newPoint newArc (now heads) (now nexts) ⌝ }
+fn wrong_label(kinds: &[[u8; 8]; 26], text: &[u8], records: &[u8], chains: &[u16], i: usize) -> bool
+    requires { ⌜ (now kinds ≡ table) × Chained (drawn (now text) (now records)) newPoint newArc (now chains) ⌝ }
     ensures { λ r. ⌜ r ≡ wrongLabelTest (drawn (now (text .entry)) (now (records .entry))) i ⌝ }
 {
     let kind = kind_at(records, i);
     if (FIRST_RULE <= kind) & (kind <= LAST_RULE) {
-        return any_wrong(kinds, text, records, heads, nexts, kind, i);
+        return any_wrong(kinds, text, records, chains, kind, i);
     }
     false
 }
@@ -95,25 +87,24 @@ fn no_such_part(
     kinds: &[[u8; 8]; 26],
     text: &[u8],
     records: &[u8],
-    heads: &[u16],
-    nexts: &[u16],
+    chains: &[u16],
     i: usize,
 ) -> bool
-    requires { ⌜ (now kinds ≡ table) × Chained (drawn (now text) (now records)) newPoint newArc (now heads) (now nexts) ⌝ }
+    requires { ⌜ (now kinds ≡ table) × Chained (drawn (now text) (now records)) newPoint newArc (now chains) ⌝ }
     ensures { λ r. ⌜ r ≡ noSuchPartTest (drawn (now (text .entry)) (now (records .entry))) i ⌝ }
 {
     let kind = kind_at(records, i);
     if (PAIR_GUESS <= kind) & (kind <= NUMBER_GUESS) {
         let label = label_at(text, records, i, 0);
         let code = code_at(kinds, kind, 0);
-        return !meets(text, records, heads, nexts, code, label);
+        return !meets(text, records, chains, code, label);
     }
     false
 }
 
 // 35 at record i.
-fn without_guess(text: &[u8], records: &[u8], heads: &[u16], nexts: &[u16], i: usize) -> bool
-    requires { ⌜ Chained (drawn (now text) (now records)) pairGuess numberGuess (now heads) (now nexts) ⌝ }
+fn without_guess(text: &[u8], records: &[u8], chains: &[u16], i: usize) -> bool
+    requires { ⌜ Chained (drawn (now text) (now records)) pairGuess numberGuess (now chains) ⌝ }
     ensures { λ r. ⌜ r ≡ withoutGuessTest (drawn (now (text .entry)) (now (records .entry))) i ⌝ }
 {
     let kind = kind_at(records, i);
@@ -122,15 +113,15 @@ fn without_guess(text: &[u8], records: &[u8], heads: &[u16], nexts: &[u16], i: u
     }
     let l = label_at(text, records, i, 0);
     match kind {
-        NEW_POINT => !guessed(text, records, heads, nexts, PAIR_GUESS, b"", l),
+        NEW_POINT => !guessed(text, records, chains, PAIR_GUESS, b"", l),
         NEW_CIRCLE => {
-            !guessed(text, records, heads, nexts, PAIR_GUESS, b".center", l)
-                | !guessed(text, records, heads, nexts, NUMBER_GUESS, b".radius", l)
+            !guessed(text, records, chains, PAIR_GUESS, b".center", l)
+                | !guessed(text, records, chains, NUMBER_GUESS, b".radius", l)
         }
         NEW_ARC => {
-            !guessed(text, records, heads, nexts, PAIR_GUESS, b".a", l)
-                | (!guessed(text, records, heads, nexts, PAIR_GUESS, b".b", l)
-                    | !guessed(text, records, heads, nexts, PAIR_GUESS, b".center", l))
+            !guessed(text, records, chains, PAIR_GUESS, b".a", l)
+                | (!guessed(text, records, chains, PAIR_GUESS, b".b", l)
+                    | !guessed(text, records, chains, PAIR_GUESS, b".center", l))
         }
         _ => false,
     }
@@ -141,30 +132,20 @@ fn bad(
     kinds: &[[u8; 8]; 26],
     text: &[u8],
     records: &[u8],
-    heads: &[u16],
-    nexts: &[u16],
-    guess_heads: &[u16],
-    guess_nexts: &[u16],
+    chains: &[u16],
+    guess_chains: &[u16],
     number: u8,
     i: usize,
 ) -> bool
-    requires { ⌜ CheckTables (drawn (now text) (now records)) (now kinds) (now heads) (now nexts) (now «guess_heads») (now «guess_nexts») × (i < records-in (now records)) ⌝ }
+    requires { ⌜ CheckTables (drawn (now text) (now records)) (now kinds) (now chains) (now «guess_chains») × (i < records-in (now records)) ⌝ }
     ensures { λ r. ⌜ r ≡ testNo (drawn (now (text .entry)) (now (records .entry))) number i ⌝ }
 {
     match number {
-        DECLARED_TWICE => twice(text, records, NEW_POINT, NEW_ARC, heads, nexts, i),
-        WRONG_LABEL => wrong_label(kinds, text, records, heads, nexts, i),
-        NO_SUCH_PART => no_such_part(kinds, text, records, heads, nexts, i),
-        GUESSED_TWICE => twice(
-            text,
-            records,
-            PAIR_GUESS,
-            NUMBER_GUESS,
-            guess_heads,
-            guess_nexts,
-            i,
-        ),
-        WITHOUT_GUESS => without_guess(text, records, guess_heads, guess_nexts, i),
+        DECLARED_TWICE => twice(text, records, NEW_POINT, NEW_ARC, chains, i),
+        WRONG_LABEL => wrong_label(kinds, text, records, chains, i),
+        NO_SUCH_PART => no_such_part(kinds, text, records, chains, i),
+        GUESSED_TWICE => twice(text, records, PAIR_GUESS, NUMBER_GUESS, guess_chains, i),
+        WITHOUT_GUESS => without_guess(text, records, guess_chains, i),
         _ => false,
     }
 }
@@ -174,29 +155,17 @@ pub(crate) fn lowest_bad(
     kinds: &[[u8; 8]; 26],
     text: &[u8],
     records: &[u8],
-    heads: &[u16],
-    nexts: &[u16],
-    guess_heads: &[u16],
-    guess_nexts: &[u16],
+    chains: &[u16],
+    guess_chains: &[u16],
     number: u8,
 ) -> usize
-    requires { ⌜ CheckTables (drawn (now text) (now records)) (now kinds) (now heads) (now nexts) (now «guess_heads») (now «guess_nexts») ⌝ }
+    requires { ⌜ CheckTables (drawn (now text) (now records)) (now kinds) (now chains) (now «guess_chains») ⌝ }
     ensures { λ r. ⌜ r ≡ lowestOr (records-in (now (records .entry))) (testNo (drawn (now (text .entry)) (now (records .entry))) number) ⌝ }
 {
     let n = records.len() / SIZE;
     let mut i = 0;
     while i < n {
-        if bad(
-            kinds,
-            text,
-            records,
-            heads,
-            nexts,
-            guess_heads,
-            guess_nexts,
-            number,
-            i,
-        ) {
+        if bad(kinds, text, records, chains, guess_chains, number, i) {
             return i;
         }
         i += 1;

@@ -15,10 +15,9 @@ use faults::NO_SUCH_PART;
 use faults::WITHOUT_GUESS;
 use faults::WRONG_LABEL;
 use faults::lowest_bad;
-use index::HEADS;
+use index::CHAINS;
 use index::chain;
 use index::labels::kind_at;
-use record::MOST;
 use record::SIZE;
 use record::formed::Formed;
 use record::formed::well_formed;
@@ -81,12 +80,10 @@ fn check_by(
     kinds: &[[u8; 8]; 26],
     text: &[u8],
     records: &[u8],
-    heads: &[u16],
-    nexts: &[u16],
-    guess_heads: &[u16],
-    guess_nexts: &[u16],
+    chains: &[u16],
+    guess_chains: &[u16],
 ) -> Checked
-    requires { ⌜ WellFormed (now text) (now records) × CheckTables (drawn (now text) (now records)) (now kinds) (now heads) (now nexts) (now «guess_heads») (now «guess_nexts») ⌝ }
+    requires { ⌜ WellFormed (now text) (now records) × CheckTables (drawn (now text) (now records)) (now kinds) (now chains) (now «guess_chains») ⌝ }
     ensures { λ r. ⌜ r ≡ checkedOf (entries (now (text .entry)) (now (records .entry))) ⌝ }
 {
     let n = records.len() / SIZE;
@@ -94,16 +91,7 @@ fn check_by(
     let mut k = 0;
     while k < FAULTS {
         let number = order[k];
-        let i = lowest_bad(
-            kinds,
-            text,
-            records,
-            heads,
-            nexts,
-            guess_heads,
-            guess_nexts,
-            number,
-        );
+        let i = lowest_bad(kinds, text, records, chains, guess_chains, number);
         if i < n {
             return Checked::Refused(Refusal { number, place: i });
         }
@@ -125,26 +113,9 @@ pub fn check(text: &[u8], records: &[u8]) -> Checked
         return Checked::Refused(r);
     }
     let kinds = KINDS;
-    let mut heads = [0u16; HEADS];
-    let mut nexts = [0u16; MOST];
-    chain(text, records, NEW_POINT, NEW_ARC, &mut heads, &mut nexts);
-    let mut guess_heads = [0u16; HEADS];
-    let mut guess_nexts = [0u16; MOST];
-    chain(
-        text,
-        records,
-        PAIR_GUESS,
-        NUMBER_GUESS,
-        &mut guess_heads,
-        &mut guess_nexts,
-    );
-    check_by(
-        &kinds,
-        text,
-        records,
-        &heads,
-        &nexts,
-        &guess_heads,
-        &guess_nexts,
-    )
+    let mut chains = [0u16; CHAINS];
+    chain(text, records, NEW_POINT, NEW_ARC, &mut chains);
+    let mut guess_chains = [0u16; CHAINS];
+    chain(text, records, PAIR_GUESS, NUMBER_GUESS, &mut guess_chains);
+    check_by(&kinds, text, records, &chains, &guess_chains)
 }

@@ -31,32 +31,23 @@ pub(crate) fn twice(
     records: &[u8],
     low: u8,
     high: u8,
-    heads: &[u16],
-    nexts: &[u16],
+    chains: &[u16],
     i: usize,
 ) -> bool
-    requires { ⌜ Chained (drawn (now text) (now records)) low high (now heads) (now nexts) × (i < records-in (now records)) ⌝ }
+    requires { ⌜ Chained (drawn (now text) (now records)) low high (now chains) × (i < records-in (now records)) ⌝ }
     ensures { λ r. ⌜ r ≡ is-twice (drawn (now (text .entry)) (now (records .entry))) low high i ⌝ }
 {
     let kind = kind_at(records, i);
     if (low <= kind) & (kind <= high) {
         let label = label_at(text, records, i, 0);
-        return find(text, records, low, high, heads, nexts, label) < i;
+        return find(text, records, low, high, chains, label) < i;
     }
     false
 }
 
 // Whether a label is that of a declaration of this kind with the suffix behind it.
-fn named(
-    text: &[u8],
-    records: &[u8],
-    heads: &[u16],
-    nexts: &[u16],
-    kind: u8,
-    suffix: &[u8],
-    label: &[u8],
-) -> bool
-    requires { ⌜ Chained (drawn (now text) (now records)) newPoint newArc (now heads) (now nexts) × (newPoint ≤ kind) × (kind ≤ newArc) ⌝ }
+fn named(text: &[u8], records: &[u8], chains: &[u16], kind: u8, suffix: &[u8], label: &[u8]) -> bool
+    requires { ⌜ Chained (drawn (now text) (now records)) newPoint newArc (now chains) × (newPoint ≤ kind) × (kind ≤ newArc) ⌝ }
     ensures { λ r. ⌜ r ≡ is-named (drawn (now (text .entry)) (now (records .entry))) kind (now (suffix .entry)) (now (label .entry)) ⌝ }
 {
     if label.len() < suffix.len() {
@@ -66,58 +57,50 @@ fn named(
     if !same(&label[n..], suffix) {
         return false;
     }
-    find(text, records, kind, kind, heads, nexts, &label[..n]) < records.len() / SIZE
+    find(text, records, kind, kind, chains, &label[..n]) < records.len() / SIZE
 }
 
 // Whether a guess of this kind has a label with the suffix behind it.
 pub(crate) fn guessed(
     text: &[u8],
     records: &[u8],
-    heads: &[u16],
-    nexts: &[u16],
+    chains: &[u16],
     kind: u8,
     suffix: &[u8],
     label: &[u8],
 ) -> bool
-    requires { ⌜ Chained (drawn (now text) (now records)) pairGuess numberGuess (now heads) (now nexts) × (pairGuess ≤ kind) × (kind ≤ numberGuess) ⌝ }
+    requires { ⌜ Chained (drawn (now text) (now records)) pairGuess numberGuess (now chains) × (pairGuess ≤ kind) × (kind ≤ numberGuess) ⌝ }
     ensures { λ r. ⌜ r ≡ is-guessed (drawn (now (text .entry)) (now (records .entry))) kind (now (suffix .entry)) (now (label .entry)) ⌝ }
 {
-    find_two(text, records, kind, kind, heads, nexts, label, suffix) < records.len() / SIZE
+    find_two(text, records, kind, kind, chains, label, suffix) < records.len() / SIZE
 }
 
 // Whether a label is what a code of the table needs.
-pub(crate) fn meets(
-    text: &[u8],
-    records: &[u8],
-    heads: &[u16],
-    nexts: &[u16],
-    code: u8,
-    label: &[u8],
-) -> bool
-    requires { ⌜ Chained (drawn (now text) (now records)) newPoint newArc (now heads) (now nexts) ⌝ }
+pub(crate) fn meets(text: &[u8], records: &[u8], chains: &[u16], code: u8, label: &[u8]) -> bool
+    requires { ⌜ Chained (drawn (now text) (now records)) newPoint newArc (now chains) ⌝ }
     ensures { λ r. ⌜ r ≡ is-met (drawn (now (text .entry)) (now (records .entry))) (needOf code) (now (label .entry)) ⌝ }
 {
     match code {
-        POINT => named(text, records, heads, nexts, NEW_POINT, b"", label),
-        CIRCLE => named(text, records, heads, nexts, NEW_CIRCLE, b"", label),
-        ARC => named(text, records, heads, nexts, NEW_ARC, b"", label),
+        POINT => named(text, records, chains, NEW_POINT, b"", label),
+        CIRCLE => named(text, records, chains, NEW_CIRCLE, b"", label),
+        ARC => named(text, records, chains, NEW_ARC, b"", label),
         ROUND => {
-            named(text, records, heads, nexts, NEW_CIRCLE, b"", label)
-                | named(text, records, heads, nexts, NEW_ARC, b"", label)
+            named(text, records, chains, NEW_CIRCLE, b"", label)
+                | named(text, records, chains, NEW_ARC, b"", label)
         }
         ASSIGNED => {
-            named(text, records, heads, nexts, NEW_POINT, b"", label)
-                | (named(text, records, heads, nexts, NEW_CIRCLE, b".center", label)
-                    | named(text, records, heads, nexts, NEW_ARC, b".center", label))
+            named(text, records, chains, NEW_POINT, b"", label)
+                | (named(text, records, chains, NEW_CIRCLE, b".center", label)
+                    | named(text, records, chains, NEW_ARC, b".center", label))
         }
         PAIR_PART => {
-            named(text, records, heads, nexts, NEW_POINT, b"", label)
-                | (named(text, records, heads, nexts, NEW_CIRCLE, b".center", label)
-                    | (named(text, records, heads, nexts, NEW_ARC, b".a", label)
-                        | (named(text, records, heads, nexts, NEW_ARC, b".b", label)
-                            | named(text, records, heads, nexts, NEW_ARC, b".center", label))))
+            named(text, records, chains, NEW_POINT, b"", label)
+                | (named(text, records, chains, NEW_CIRCLE, b".center", label)
+                    | (named(text, records, chains, NEW_ARC, b".a", label)
+                        | (named(text, records, chains, NEW_ARC, b".b", label)
+                            | named(text, records, chains, NEW_ARC, b".center", label))))
         }
-        NUMBER_PART => named(text, records, heads, nexts, NEW_CIRCLE, b".radius", label),
+        NUMBER_PART => named(text, records, chains, NEW_CIRCLE, b".radius", label),
         _ => false,
     }
 }

@@ -3,11 +3,10 @@ use mathlib.Core.Path.{_≡_, refl}
 use mathlib.Core.List.{List, [], _∷_}
 use Prim.Native.Nat.{ℕ}
 use Prim.Native.String.{String}
-use lib.ListN.{length}
 use Rattle.ground.specs.Words.{bytes}
-use Rattle.record.specs.Entry.{Entry, upTo}
+use Rattle.record.specs.Entry.{Entry}
 use Rattle.index.specs.Labels.{labelled}
-use Rattle.index.specs.Chains.{chains, hashFrom, hashOf, hashed, firstOf, from, headOf, nextOf, walk, walkOf}
+use Rattle.index.specs.Chains.{tableOf, hashFrom, hashOf, hashed, firstOf, from, headOf, nextOf, walk, walkOf}
 
 abbrev one : ℕ → String → Entry
 one kind l = record { kind = kind; third = 0; labels = bytes l ∷ []; x = 0; y = 0 }
@@ -18,7 +17,7 @@ page = one 1 "p" ∷ one 1 "aU" ∷ one 20 "b0" ∷ one 2 "b0" ∷ one 3 "b0" �
 
 -- the first record of a kind from low to high with a label, by the chains of kinds 1 to 3
 abbrev found-in : ℕ → ℕ → String → ℕ
-found-in low high l = walkOf page low high (upTo chains (headOf page 1 3)) (upTo (length page) (nextOf page 1 3)) (bytes l)
+found-in low high l = walkOf page low high (tableOf page 1 3 []) (bytes l)
 
 abbrev answers : List ℕ
 answers =

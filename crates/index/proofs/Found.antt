@@ -1,73 +1,73 @@
 -- A walk by any tables, step by step; and by tables that hold the chains it finds what the plain search finds. Assumes nothing.
 use mathlib.Core.Path.{_≡_, refl, sym, ap, _∙_}
 use mathlib.Core.Bool.{Bool, true, false, cond}
-use mathlib.Core.List.{List, _++_}
+use mathlib.Core.List.{List}
 use Prim.Native.Nat.{ℕ, zero, suc, _+_, _-_, _≤_, _<_}
 use native.Mathlib.Omega.{arith}
 use native.Mathlib.Decide.{decLt}
-use lib.ListN.{length, getD, drop, length-append, List·getD-append}
+use lib.ListN.{length, getD}
 use lib.Dec.{ltb}
 use borrow.Author.Tests.{lt-ltb, le-ltb, ltb-true}
 use Rattle.ground.proofs.Lists.{and-first, and-second}
 use Rattle.refusal.specs.First.{anyBelow}
 use Rattle.refusal.proofs.Says.{says-and, says-le}
-use Rattle.record.specs.Entry.{Label, Entry, upTo}
-use Rattle.record.proofs.UpTo.{length-up-to, getD-up-to}
+use Rattle.record.specs.Record.{mostRecords}
+use Rattle.record.specs.Entry.{Label, Entry}
 use Rattle.index.specs.Labels.{kindNo, nameNo, same, within, labelled, lowestOr}
-use Rattle.index.specs.Chains.{chains, room, hashOf, hashed, from, headOf, nextOf, Made, Chained, walk, walkOf}
+use Rattle.index.specs.Chains.{chains, room, nextIn, hashOf, hashed, from, headOf, tableOf, Made, Chained, walk, walkOf}
 use Rattle.index.proofs.Laws.{says-same, hash-small}
 use Rattle.index.proofs.First.{skip, from-more, from-stop, from-end, from-after, from-up-to, from-true, from-plain, lowest-below}
-use Rattle.index.proofs.Links.{hashed-at, hashed-says, next-in, room-so, room-few}
+use Rattle.index.proofs.Links.{hashed-at, hashed-says, next-in, room-so, room-fits, table-head, table-next, table-long}
 
 -- ---- a walk
 
-module _ (es : List Entry) (low high : ℕ) (ns : List ℕ) (l : Label) where
+module _ (es : List Entry) (low high : ℕ) (cs : List ℕ) (l : Label) where
   module _ (m i : ℕ) where
-    walk-past : length es ≤ i → walk es low high ns l m i ≡ length es
+    walk-past : length es ≤ i → walk es low high cs l m i ≡ length es
     unfolding walk
     walk-past h = go m
       where
-        go : (k : ℕ) → walk es low high ns l k i ≡ length es
+        go : (k : ℕ) → walk es low high cs l k i ≡ length es
         go zero = refl
         go (suc k) = rw (le-ltb i (length es) h)
 
-    walk-here : i < length es → labelled es low high l i ≡ true → walk es low high ns l (suc m) i ≡ i
+    walk-here : i < length es → labelled es low high l i ≡ true → walk es low high cs l (suc m) i ≡ i
     unfolding walk
     walk-here h e = rw (lt-ltb i (length es) h, e)
 
-    walk-stop : i < length es → labelled es low high l i ≡ false → getD ns i 0 ≤ i → walk es low high ns l (suc m) i ≡ length es
+    walk-stop : i < length es → labelled es low high l i ≡ false → nextIn cs i ≤ i → walk es low high cs l (suc m) i ≡ length es
     unfolding walk
-    walk-stop h e f = rw (lt-ltb i (length es) h, e, le-ltb i (getD ns i 0) f)
+    walk-stop h e f = rw (lt-ltb i (length es) h, e, le-ltb i (nextIn cs i) f)
 
-    walk-next : i < length es → labelled es low high l i ≡ false → i < getD ns i 0 → walk es low high ns l (suc m) i ≡ walk es low high ns l m (getD ns i 0)
+    walk-next : i < length es → labelled es low high l i ≡ false → i < nextIn cs i → walk es low high cs l (suc m) i ≡ walk es low high cs l m (nextIn cs i)
     unfolding walk
-    walk-next h e f = rw (lt-ltb i (length es) h, e, lt-ltb i (getD ns i 0) f)
+    walk-next h e f = rw (lt-ltb i (length es) h, e, lt-ltb i (nextIn cs i) f)
 
   -- a step goes up, so that as many steps as there are entries from i on are enough
-  enough-step : (m k i : ℕ) → (ltb i (getD ns i 0) ≡ true → walk es low high ns l m (getD ns i 0) ≡ walk es low high ns l k (getD ns i 0))
-      → walk es low high ns l (suc m) i ≡ walk es low high ns l (suc k) i
+  enough-step : (m k i : ℕ) → (ltb i (nextIn cs i) ≡ true → walk es low high cs l m (nextIn cs i) ≡ walk es low high cs l k (nextIn cs i))
+      → walk es low high cs l (suc m) i ≡ walk es low high cs l (suc k) i
   unfolding walk
-  enough-step m k i rest = go (ltb i (length es)) (labelled es low high l i) (ltb i (getD ns i 0)) refl
+  enough-step m k i rest = go (ltb i (length es)) (labelled es low high l i) (ltb i (nextIn cs i)) refl
     where
-      go : (t u v : Bool) → ltb i (getD ns i 0) ≡ v
-          → cond t (cond u i (cond v (walk es low high ns l m (getD ns i 0)) (length es))) (length es)
-          ≡ cond t (cond u i (cond v (walk es low high ns l k (getD ns i 0)) (length es))) (length es)
+      go : (t u v : Bool) → ltb i (nextIn cs i) ≡ v
+          → cond t (cond u i (cond v (walk es low high cs l m (nextIn cs i)) (length es))) (length es)
+          ≡ cond t (cond u i (cond v (walk es low high cs l k (nextIn cs i)) (length es))) (length es)
       go true true v e = refl
       go true false true e = rest e
       go true false false e = refl
       go false u v e = refl
 
-  enough : (m k i : ℕ) → length es ≤ m + i → length es ≤ k + i → walk es low high ns l m i ≡ walk es low high ns l k i
+  enough : (m k i : ℕ) → length es ≤ m + i → length es ≤ k + i → walk es low high cs l m i ≡ walk es low high cs l k i
   enough zero k i a b = walk-past zero i (omega arith) ∙ sym (walk-past k i (omega arith))
   enough (suc m) zero i a b = walk-past (suc m) i (omega arith) ∙ sym (walk-past zero i (omega arith))
   enough (suc m) (suc k) i a b =
-      enough-step m k i (λ e. let h : i < getD ns i 0 = ltb-true i (getD ns i 0) e in enough m k (getD ns i 0) (omega arith) (omega arith))
+      enough-step m k i (λ e. let h : i < nextIn cs i = ltb-true i (nextIn cs i) e in enough m k (nextIn cs i) (omega arith) (omega arith))
 
   -- the walk with as many steps as there are entries from i on
   abbrev pub rest-from : ℕ → ℕ
-  rest-from i = walk es low high ns l (length es - i) i
+  rest-from i = walk es low high cs l (length es - i) i
 
-  pub rest-start : (n i : ℕ) → n ≡ length es → walk es low high ns l n i ≡ rest-from i
+  pub rest-start : (n i : ℕ) → n ≡ length es → walk es low high cs l n i ≡ rest-from i
   rest-start n i e = enough n (length es - i) i (omega arith) (omega arith)
 
   pub rest-past : (i : ℕ) → length es ≤ i → rest-from i ≡ length es
@@ -81,47 +81,45 @@ module _ (es : List Entry) (low high : ℕ) (ns : List ℕ) (l : Label) where
     rest-here e = rw one-more (walk-here (length es - suc i) i h e)
 
     module _ (e : labelled es low high l i ≡ false) where
-      pub rest-stop : getD ns i 0 ≤ i → rest-from i ≡ length es
+      pub rest-stop : nextIn cs i ≤ i → rest-from i ≡ length es
       rest-stop f = rw one-more (walk-stop (length es - suc i) i h e f)
 
-      pub rest-next : i < getD ns i 0 → rest-from i ≡ rest-from (getD ns i 0)
+      pub rest-next : i < nextIn cs i → rest-from i ≡ rest-from (nextIn cs i)
       rest-next f =
           rw one-more (walk-next (length es - suc i) i h e f)
-          ∙ enough (length es - suc i) (length es - getD ns i 0) (getD ns i 0) (omega arith) (omega arith)
+          ∙ enough (length es - suc i) (length es - nextIn cs i) (nextIn cs i) (omega arith) (omega arith)
 
 -- ---- a find
 
-module _ (es : List Entry) (low high : ℕ) (hs ns : List ℕ) (l : Label) (n : ℕ) (e : n ≡ length es) where
-  pub find-none : room n (length hs) (length ns) ≡ false → n ≡ walkOf es low high hs ns l
+module _ (es : List Entry) (low high : ℕ) (cs : List ℕ) (l : Label) (n : ℕ) (e : n ≡ length es) where
+  pub find-none : room n (length cs) ≡ false → n ≡ walkOf es low high cs l
   unfolding walkOf
   find-none f = rw (← e, f) refl
 
-  pub find-walk : room n (length hs) (length ns) ≡ true → (h i : ℕ) → h ≡ hashOf l → i ≡ getD hs h 0 → walk es low high ns l n i ≡ walkOf es low high hs ns l
+  pub find-walk : room n (length cs) ≡ true → (h i : ℕ) → h ≡ hashOf l → i ≡ getD cs h 0 → walk es low high cs l n i ≡ walkOf es low high cs l
   unfolding walkOf
   find-walk f h i eh ei = rw (← e, f, ← eh, ← ei) refl
 
 -- ---- tables that hold the chains
 
 -- what `chain` makes where there is room
-pub made-chained : {es : List Entry} {low high : ℕ} {hs ns hs′ ns′ : List ℕ} {answer : Bool} → Made es low high hs ns answer hs′ ns′ → answer ≡ true → Chained es low high hs′ ns′
-made-chained {es} {low} {high} {hs} {ns} {hs′} {ns′} m e =
-    let n = length es in
-    let r : room n (length hs) (length ns) ≡ true = sym (m .told) ∙ e in
-    let eh : hs′ ≡ upTo chains (headOf es low high) = rw r at (m .heads) in
-    let en : ns′ ≡ upTo n (nextOf es low high) ++ drop n ns = rw r at (m .nexts) in
-    let many : length (upTo n (nextOf es low high)) ≡ n = length-up-to n (nextOf es low high) in
-    let heads : length hs′ ≡ chains = ap length eh ∙ length-up-to chains (headOf es low high) in
-    let nexts : n ≤ length ns′ = omega (arith, simp length-append at (ap length en), many) in
+made-chained : {es : List Entry} {low high : ℕ} {cs after : List ℕ} {answer : Bool} → Made es low high cs answer after → answer ≡ true → Chained es low high after
+made-chained {es} {low} {high} {cs} {after} m e =
+    let r : room (length es) (length cs) ≡ true = sym (m .told) ∙ e in
+    let is : after ≡ tableOf es low high cs = rw r at (m .table) in
+    let long : length after ≡ length cs = ap length is ∙ table-long es low high cs (room-fits (length es) (length cs) r) in
     record {
-      roomy = room-so n (length hs′) (length ns′) (room-few n (length hs) (length ns) r) heads nexts;
-      head = λ h b. ap (λ (t : List ℕ). getD t h 0) eh ∙ getD-up-to chains (headOf es low high) h 0 b;
-      next = λ i b.
-          ap (λ (t : List ℕ). getD t i 0) en
-          ∙ List·getD-append (upTo n (nextOf es low high)) (drop n ns) 0 i (omega (arith, many, b))
-          ∙ getD-up-to n (nextOf es low high) i 0 b;
+      roomy = rw long r;
+      head = λ h b. rw is (table-head es low high cs h b);
+      next = λ i b. rw is (table-next es low high cs i b);
     }
 
-module _ (es : List Entry) (lo hi low high : ℕ) (hs ns : List ℕ) (l : Label) (c : Chained es lo hi hs ns) (above : lo ≤ low) (below : high ≤ hi) where
+-- of a table that has room for the most records of a page
+pub chained : {es : List Entry} {low high : ℕ} {cs after : List ℕ} {answer : Bool} → length es ≤ mostRecords → Made es low high cs answer after → length cs ≡ chains + mostRecords
+    → Chained es low high after
+chained {es = es} {cs = cs} few m long = made-chained m (m .told ∙ room-so (length es) (length cs) (omega (arith, few)) (omega (arith, few, long)))
+
+module _ (es : List Entry) (lo hi low high : ℕ) (cs : List ℕ) (l : Label) (c : Chained es lo hi cs) (above : lo ≤ low) (below : high ≤ hi) where
   inside : (kind : ℕ) → within low high kind ≡ true → within lo hi kind ≡ true
   inside kind e =
       let w = says-and (says-le low kind) (says-le kind high) .so e in
@@ -135,55 +133,55 @@ module _ (es : List Entry) (lo hi low high : ℕ) (hs ns : List ℕ) (l : Label)
       (ap hashOf (says-same (nameNo es i) l .so (and-second (within low high (kindNo es i)) (same (nameNo es i) l) e)))
 
   module _ (i : ℕ) (lt : i < length es) (h : hashed es lo hi (hashOf l) i ≡ true) where
-    next-is : getD ns i 0 ≡ from (hashed es lo hi (hashOf l)) (length es) (i + 1)
+    next-is : nextIn cs i ≡ from (hashed es lo hi (hashOf l)) (length es) (i + 1)
     next-is =
         let w = hashed-says es lo hi (hashOf l) i h in
         c .next i lt ∙ next-in es lo hi i (w .0) ∙ ap (λ (k : ℕ). from (hashed es lo hi k) (length es) (i + 1)) (w .1)
 
-    next-up : i < getD ns i 0
+    next-up : i < nextIn cs i
     next-up = rw next-is (omega (arith, from-after (hashed es lo hi (hashOf l)) (length es) (i + 1)))
 
-    next-inside : getD ns i 0 ≤ length es
+    next-inside : nextIn cs i ≤ length es
     next-inside = rw next-is (from-up-to (hashed es lo hi (hashOf l)) (length es) (i + 1) (omega arith))
 
-    next-hashed : getD ns i 0 < length es → hashed es lo hi (hashOf l) (getD ns i 0) ≡ true
+    next-hashed : nextIn cs i < length es → hashed es lo hi (hashOf l) (nextIn cs i) ≡ true
     next-hashed k = rw next-is (from-true (hashed es lo hi (hashOf l)) (length es) (i + 1) (omega arith) (rw next-is at k))
 
-    next-rest : labelled es low high l i ≡ false → from (labelled es low high l) (length es) i ≡ from (labelled es low high l) (length es) (getD ns i 0)
+    next-rest : labelled es low high l i ≡ false → from (labelled es low high l) (length es) i ≡ from (labelled es low high l) (length es) (nextIn cs i)
     next-rest e =
         from-more (labelled es low high l) (length es) i lt e
         ∙ rw next-is (skip (labelled es low high l) (hashed es lo hi (hashOf l)) labelled-hashed (length es) (i + 1) (omega arith))
 
   -- the walk from an entry of the label's chain is the plain search from there
-  walked-past : (m i : ℕ) → i ≤ length es → length es ≤ i → walk es low high ns l m i ≡ from (labelled es low high l) (length es) i
+  walked-past : (m i : ℕ) → i ≤ length es → length es ≤ i → walk es low high cs l m i ≡ from (labelled es low high l) (length es) i
   walked-past m i b k =
       let z : length es ≡ i = omega arith in
-      walk-past es low high ns l m i k ∙ z ∙ sym (from-end (labelled es low high l) (length es) i k)
+      walk-past es low high cs l m i k ∙ z ∙ sym (from-end (labelled es low high l) (length es) i k)
 
   step : (m i : ℕ) → i < length es → (t : Bool) → labelled es low high l i ≡ t
-      → (labelled es low high l i ≡ false → walk es low high ns l m (getD ns i 0) ≡ from (labelled es low high l) (length es) i) → i < getD ns i 0
-      → walk es low high ns l (suc m) i ≡ from (labelled es low high l) (length es) i
-  step m i lt true e rest up = walk-here es low high ns l m i lt e ∙ sym (from-stop (labelled es low high l) (length es) i lt e)
-  step m i lt false e rest up = walk-next es low high ns l m i lt e up ∙ rest e
+      → (labelled es low high l i ≡ false → walk es low high cs l m (nextIn cs i) ≡ from (labelled es low high l) (length es) i) → i < nextIn cs i
+      → walk es low high cs l (suc m) i ≡ from (labelled es low high l) (length es) i
+  step m i lt true e rest up = walk-here es low high cs l m i lt e ∙ sym (from-stop (labelled es low high l) (length es) i lt e)
+  step m i lt false e rest up = walk-next es low high cs l m i lt e up ∙ rest e
 
-  start-is : getD hs (hashOf l) 0 ≡ from (hashed es lo hi (hashOf l)) (length es) 0
+  start-is : getD cs (hashOf l) 0 ≡ from (hashed es lo hi (hashOf l)) (length es) 0
   unfolding headOf
   start-is = c .head (hashOf l) (hash-small 0 l (omega arith))
 
-  walked : (m i : ℕ) → length es ≤ m + i → i ≤ length es → (i < length es → hashed es lo hi (hashOf l) i ≡ true) → walk es low high ns l m i ≡ from (labelled es low high l) (length es) i
+  walked : (m i : ℕ) → length es ≤ m + i → i ≤ length es → (i < length es → hashed es lo hi (hashOf l) i ≡ true) → walk es low high cs l m i ≡ from (labelled es low high l) (length es) i
   walked zero i a b h = walked-past zero i b (omega arith)
   walked (suc m) i a b h =
       elim (decLt i (length es)) [
-        | yes lt ↦ step m i lt (labelled es low high l i) refl (λ e. walked m (getD ns i 0) (omega (arith, next-up i lt (h lt))) (next-inside i lt (h lt)) (next-hashed i lt (h lt)) ∙ sym (next-rest i lt (h lt) e)) (next-up i lt (h lt))
+        | yes lt ↦ step m i lt (labelled es low high l i) refl (λ e. walked m (nextIn cs i) (omega (arith, next-up i lt (h lt))) (next-inside i lt (h lt)) (next-hashed i lt (h lt)) ∙ sym (next-rest i lt (h lt) e)) (next-up i lt (h lt))
         | no f ↦ walked-past (suc m) i b (omega (arith, f))
       ]
 
-  pub found : walkOf es low high hs ns l ≡ lowestOr (length es) (labelled es low high l)
+  pub found : walkOf es low high cs l ≡ lowestOr (length es) (labelled es low high l)
   unfolding walkOf
   found =
       let n = length es in
       let q = hashed es lo hi (hashOf l) in
-      let first : getD hs (hashOf l) 0 ≡ from q n 0 = start-is in
+      let first : getD cs (hashOf l) 0 ≡ from q n 0 = start-is in
       rw (c .roomy, first) (
       walked n (from q n 0) (omega arith) (from-up-to q n 0 (omega arith)) (from-true q n 0 (omega arith))
       ∙ sym (skip (labelled es low high l) q labelled-hashed n 0 (omega arith))
@@ -191,5 +189,5 @@ module _ (es : List Entry) (lo hi low high : ℕ) (hs ns : List ℕ) (l : Label)
       )
 
   -- what is found stands below i exactly if an entry below i has the label
-  pub found-below : (i : ℕ) → i ≤ length es → ltb (walkOf es low high hs ns l) i ≡ anyBelow i (labelled es low high l)
+  pub found-below : (i : ℕ) → i ≤ length es → ltb (walkOf es low high cs l) i ≡ anyBelow i (labelled es low high l)
   found-below i h = rw found (lowest-below (length es) (labelled es low high l) i h)

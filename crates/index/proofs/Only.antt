@@ -1,8 +1,6 @@
 -- The promise of each public function, as its source states it, determines the answer, and what the tables hold at last: each is made
 -- of equations. Of a label, which is a part of the lent text, it determines the bytes and the place. Assumes nothing.
 use mathlib.Core.Path.{_≡_}
-use mathlib.Core.List.{List}
-use Prim.Native.Nat.{ℕ}
 use contract.Lifetimes.{Lfts}
 use borrow.Fn.Kinds.{Dens, resT, endedOf}
 use denote.Triple.Clauses.{AtExit}
@@ -36,19 +34,13 @@ same-only κs a x y e f p q = by-equation p q
 pub same-with-only : Determined 3 same-with-kinds.ps same-with-kinds.r same-with.Post
 same-with-only κs a x y e f p q = by-equation p q
 
--- what the two tables hold at last, the last two of six parameters
-abbrev Last : Type 0
-Last = Unit {0} × (Unit {0} × (Unit {0} × (Unit {0} × (List ℕ × (List ℕ × Unit {0})))))
-
-abbrev last : List ℕ → List ℕ → Last
-last hs ns = (tt, (tt, (tt, (tt, (hs, (ns, tt))))))
-
-pub chain-only : Settled (endedOf 4 chain-kinds.ps chain-kinds.r) chain.Post
+-- the table is the last of five parameters
+pub chain-only : Settled (endedOf 3 chain-kinds.ps chain-kinds.r) chain.Post
 chain-only κs a x y v w p q =
-    (by-equation (p .told) (q .told), λ j. last (by-equation (p .heads) (q .heads) j) (by-equation (p .nexts) (q .nexts) j))
+    (by-equation (p .told) (q .told), λ j. (tt, (tt, (tt, (tt, (by-equation (p .table) (q .table) j, tt))))))
 
-pub find-only : Determined 5 find-kinds.ps find-kinds.r find.Post
+pub find-only : Determined 4 find-kinds.ps find-kinds.r find.Post
 find-only κs a x y e f p q = by-equation p q
 
-pub find-two-only : Determined 6 find-two-kinds.ps find-two-kinds.r find-two.Post
+pub find-two-only : Determined 5 find-two-kinds.ps find-two-kinds.r find-two.Post
 find-two-only κs a x y e f p q = by-equation p q

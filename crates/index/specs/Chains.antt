@@ -3,7 +3,7 @@
 use mathlib.Core.Path.{_≡_}
 use mathlib.Core.Bool.{Bool, true, _&&_, cond}
 use mathlib.Core.List.{List, [], _∷_, _++_}
-use Prim.Native.Nat.{ℕ, zero, suc, _+_, _*_, _-_, _%_, _≤_, _<_}
+use Prim.Native.Nat.{ℕ, zero, suc, _+_, _*_, _-_, _%_, _<_}
 use lib.Dec.{leb, ltb, eqb}
 use lib.ListN.{length, getD, drop}
 use Rattle.record.specs.Entry.{Label, Entry, upTo}
@@ -19,9 +19,13 @@ chains = 1024
 abbrev pub most : ℕ
 most = 65534
 
--- tables for n entries: one for the first of each chain, one for the next of each entry
-abbrev pub room : ℕ → ℕ → ℕ → Bool
-room n heads nexts = leb n most && (eqb heads chains && leb n nexts)
+-- a table for n entries: the first of each chain, and then the next of each entry
+abbrev pub room : ℕ → ℕ → Bool
+room n size = leb n most && leb (chains + n) size
+
+-- the next of entry i
+abbrev pub nextIn : List ℕ → ℕ → ℕ
+nextIn cs i = getD cs (chains + i) 0
 
 -- ---- the hash of a label
 
@@ -37,7 +41,7 @@ hashOf = hashFrom 0
 unfoldable pub hashed : List Entry → ℕ → ℕ → ℕ → ℕ → Bool
 hashed es low high h i = within low high (kindNo es i) && eqb (hashOf (nameNo es i)) h
 
--- ---- the tables
+-- ---- the table
 
 -- the first of the m numbers from i on that passes the test, or the number after them
 unfoldable pub firstOf : (ℕ → Bool) → ℕ → ℕ → ℕ
@@ -56,39 +60,31 @@ headOf es low high h = from (hashed es low high h) (length es) 0
 unfoldable pub nextOf : List Entry → ℕ → ℕ → ℕ → ℕ
 nextOf es low high i = cond (within low high (kindNo es i)) (from (hashed es low high (hashOf (nameNo es i))) (length es) (i + 1)) (length es)
 
--- what is made of the two tables: where there is room they hold the chains, and else they stay as they were
-pub record Made (es : List Entry) (low high : ℕ) (hs ns : List ℕ) (answer : Bool) (hs-after ns-after : List ℕ) : Type 0 where
-  pub told : answer ≡ room (length es) (length hs) (length ns)
-  pub heads : hs-after ≡ cond (room (length es) (length hs) (length ns)) (upTo chains (headOf es low high)) hs
-  pub nexts : ns-after ≡ cond (room (length es) (length hs) (length ns)) (upTo (length es) (nextOf es low high) ++ drop (length es) ns) ns
+-- the table with the chains, and what lies past them
+abbrev pub tableOf : List Entry → ℕ → ℕ → List ℕ → List ℕ
+tableOf es low high cs = upTo chains (headOf es low high) ++ (upTo (length es) (nextOf es low high) ++ drop (chains + length es) cs)
 
--- two tables while they are made, from the last entry to the first: they hold the chains of the entries from k on
-pub record Links (es : List Entry) (low high k : ℕ) (hs ns-before ns : List ℕ) : Type 0 where
-  pub few : length es ≤ most
-  pub heads-fit : length hs ≡ chains
-  pub nexts-fit : length es ≤ length ns
-  pub as-long : length ns ≡ length ns-before
-  pub head : (h : ℕ) → h < chains → getD hs h 0 ≡ from (hashed es low high h) (length es) k
-  pub next : (i : ℕ) → k ≤ i → i < length es → getD ns i 0 ≡ nextOf es low high i
-  pub behind : (i : ℕ) → length es ≤ i → getD ns i 0 ≡ getD ns-before i 0
+-- what is made of a table: where there is room it holds the chains, and else it stays as it was
+pub record Made (es : List Entry) (low high : ℕ) (cs : List ℕ) (answer : Bool) (after : List ℕ) : Type 0 where
+  pub told : answer ≡ room (length es) (length cs)
+  pub table : after ≡ cond (room (length es) (length cs)) (tableOf es low high cs) cs
 
--- two tables hold the chains
-pub record Chained (es : List Entry) (low high : ℕ) (hs ns : List ℕ) : Type 0 where
-  pub roomy : room (length es) (length hs) (length ns) ≡ true
-  pub head : (h : ℕ) → h < chains → getD hs h 0 ≡ headOf es low high h
-  pub next : (i : ℕ) → i < length es → getD ns i 0 ≡ nextOf es low high i
+-- a table holds the chains
+pub record Chained (es : List Entry) (low high : ℕ) (cs : List ℕ) : Type 0 where
+  pub roomy : room (length es) (length cs) ≡ true
+  pub head : (h : ℕ) → h < chains → getD cs h 0 ≡ headOf es low high h
+  pub next : (i : ℕ) → i < length es → nextIn cs i ≡ nextOf es low high i
 
 -- ---- a find
 
--- at most m steps along a table of nexts, from i to the first entry of a kind from low to high with the label l; a step goes up
+-- at most m steps along a table, from i to the first entry of a kind from low to high with the label l; a step goes up
 unfoldable pub walk : List Entry → ℕ → ℕ → List ℕ → Label → ℕ → ℕ → ℕ
-walk es low high ns l zero i = length es
-walk es low high ns l (suc m) i =
+walk es low high cs l zero i = length es
+walk es low high cs l (suc m) i =
     cond (ltb i (length es))
-    (cond (labelled es low high l i) i (cond (ltb i (getD ns i 0)) (walk es low high ns l m (getD ns i 0)) (length es)))
+    (cond (labelled es low high l i) i (cond (ltb i (nextIn cs i)) (walk es low high cs l m (nextIn cs i)) (length es)))
     (length es)
 
--- the entry that is found by any two tables
-unfoldable pub walkOf : List Entry → ℕ → ℕ → List ℕ → List ℕ → Label → ℕ
-walkOf es low high hs ns l =
-    cond (room (length es) (length hs) (length ns)) (walk es low high ns l (length es) (getD hs (hashOf l) 0)) (length es)
+-- the entry that is found by any table
+unfoldable pub walkOf : List Entry → ℕ → ℕ → List ℕ → Label → ℕ
+walkOf es low high cs l = cond (room (length es) (length cs)) (walk es low high cs l (length es) (getD cs (hashOf l) 0)) (length es)

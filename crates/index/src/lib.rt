@@ -4,32 +4,40 @@ pub mod labels;
 ghost use mathlib.Core.Path.{_≡_};
 ghost use mathlib.Core.Bool.{true};
 ghost use mathlib.Core.List.{_++_};
-ghost use Prim.Native.Nat.{ℕ, _≤_, _<_};
-ghost use lib.ListN.{length, getD};
+ghost use Prim.Native.Nat.{_≤_, _<_};
+ghost use lib.ListN.{length};
 ghost use Rattle.record.specs.Decode.{countOf as records-in};
 ghost use Rattle.index.specs.Labels.{drawn, labelled as is-labelled};
-ghost use Rattle.index.specs.Chains.{chains, room as has-room, hashFrom, Made, Links, walk as walked, walkOf};
+ghost use Rattle.index.specs.Chains.{chains as heads, room as has-room, hashFrom, Made, walk as walked, walkOf};
+ghost use Rattle.index.specs.Steps.{Emptied, Links};
 use labels::kind_of;
 use labels::label_of;
 use labels::same_with;
+use record::MOST;
 use record::SIZE;
 
 // How many chains there are, and the most records that they hold.
-pub const HEADS: usize = 1_024;
+const HEADS: usize = 1_024;
 
-pub const MOST: usize = 65_534;
+const MOST_CHAINED: usize = 65_534;
 
-// Whether tables of these lengths have room for n records.
-fn room(n: usize, heads: usize, nexts: usize) -> bool
-    ensures { λ r. ⌜ r ≡ has-room n heads nexts ⌝ }
+// The size of a table for the most records of a page.
+pub const CHAINS: usize = HEADS + MOST;
+
+// Whether a table of a size has room for n records.
+fn room(n: usize, size: usize) -> bool
+    ensures { λ r. ⌜ r ≡ has-room n size ⌝ }
 {
-    (n <= MOST) & ((heads == HEADS) & (n <= nexts))
+    if MOST_CHAINED < n {
+        return false;
+    }
+    HEADS + n <= size
 }
 
 // The hash of a label, from a hash on.
 fn hash(start: usize, l: &[u8]) -> usize
-    requires { ⌜ start < chains ⌝ }
-    ensures { λ r. ⌜ (r ≡ hashFrom start (now (l .entry))) × (r < chains) ⌝ }
+    requires { ⌜ start < heads ⌝ }
+    ensures { λ r. ⌜ (r ≡ hashFrom start (now (l .entry))) × (r < heads) ⌝ }
 {
     let mut h = start;
     let mut i = 0;
@@ -47,21 +55,22 @@ fn wide(x: u16) -> usize
     x as usize
 }
 
-// Puts one number everywhere.
-fn fill(heads: &mut [u16], v: u16)
-    ensures { λ _. ⌜ ((h : ℕ) → h < length (now (heads .entry)) → getD (now (heads .exit)) h 0 ≡ v) ⌝ }
+// Puts one number in the place of each head.
+fn empty(chains: &mut [u16], v: u16)
+    requires { ⌜ heads ≤ length (now chains) ⌝ }
+    ensures { λ _. ⌜ Emptied v (now (chains .entry)) (now (chains .exit)) ⌝ }
 {
     let mut i = 0;
-    while i < heads.len() {
-        heads[i] = v;
+    while i < HEADS {
+        chains[i] = v;
         i += 1;
     }
 }
 
 // From the last record to the first: each goes to the front of its chain.
-fn link(text: &[u8], records: &[u8], low: u8, high: u8, heads: &mut [u16], nexts: &mut [u16])
-    requires { ⌜ Links (drawn (now text) (now records)) low high (records-in (now records)) (now heads) (now nexts) (now nexts) ⌝ }
-    ensures { λ _. ⌜ Links (drawn (now (text .entry)) (now (records .entry))) low high 0 (now (heads .exit)) (now (nexts .entry)) (now (nexts .exit)) ⌝ }
+fn link(text: &[u8], records: &[u8], low: u8, high: u8, chains: &mut [u16])
+    requires { ⌜ Links (drawn (now text) (now records)) low high (records-in (now records)) (now chains) (now chains) ⌝ }
+    ensures { λ _. ⌜ Links (drawn (now (text .entry)) (now (records .entry))) low high 0 (now (chains .entry)) (now (chains .exit)) ⌝ }
 {
     let n = records.len() / SIZE;
     let mut i = n;
@@ -70,31 +79,24 @@ fn link(text: &[u8], records: &[u8], low: u8, high: u8, heads: &mut [u16], nexts
         let kind = kind_of(records, i);
         if (low <= kind) & (kind <= high) {
             let h = hash(0, label_of(text, records, i, 0));
-            nexts[i] = heads[h];
-            heads[h] = i as u16;
+            chains[HEADS + i] = chains[h];
+            chains[h] = i as u16;
         } else {
-            nexts[i] = n as u16;
+            chains[HEADS + i] = n as u16;
         }
     }
 }
 
-// Chains the records of a kind from low to high, and tells whether the tables had room; where they had none they stay as they were.
-pub fn chain(
-    text: &[u8],
-    records: &[u8],
-    low: u8,
-    high: u8,
-    heads: &mut [u16],
-    nexts: &mut [u16],
-) -> bool
-    ensures { λ r. ⌜ Made (drawn (now (text .entry)) (now (records .entry))) low high (now (heads .entry)) (now (nexts .entry)) r (now (heads .exit)) (now (nexts .exit)) ⌝ }
+// Chains the records of a kind from low to high, and tells whether the table had room; where it had none it stays as it was.
+pub fn chain(text: &[u8], records: &[u8], low: u8, high: u8, chains: &mut [u16]) -> bool
+    ensures { λ r. ⌜ Made (drawn (now (text .entry)) (now (records .entry))) low high (now (chains .entry)) r (now (chains .exit)) ⌝ }
 {
     let n = records.len() / SIZE;
-    if !room(n, heads.len(), nexts.len()) {
+    if !room(n, chains.len()) {
         return false;
     }
-    fill(heads, n as u16);
-    link(text, records, low, high, heads, nexts);
+    empty(chains, n as u16);
+    link(text, records, low, high, chains);
     true
 }
 
@@ -116,13 +118,13 @@ fn walk(
     records: &[u8],
     low: u8,
     high: u8,
-    nexts: &[u16],
+    chains: &[u16],
     a: &[u8],
     b: &[u8],
     start: usize,
 ) -> usize
-    requires { ⌜ records-in (now records) ≤ length (now nexts) ⌝ }
-    ensures { λ r. ⌜ r ≡ walked (drawn (now (text .entry)) (now (records .entry))) low high (now (nexts .entry)) (now (a .entry) ++ now (b .entry)) (records-in (now (records .entry))) start ⌝ }
+    requires { ⌜ has-room (records-in (now records)) (length (now chains)) ≡ true ⌝ }
+    ensures { λ r. ⌜ r ≡ walked (drawn (now (text .entry)) (now (records .entry))) low high (now (chains .entry)) (now (a .entry) ++ now (b .entry)) (records-in (now (records .entry))) start ⌝ }
 {
     let n = records.len() / SIZE;
     let mut i = start;
@@ -130,7 +132,7 @@ fn walk(
         if labelled(text, records, low, high, a, b, i) {
             return i;
         }
-        let next = wide(nexts[i]);
+        let next = wide(chains[HEADS + i]);
         if next <= i {
             return n;
         }
@@ -145,32 +147,23 @@ pub fn find_two(
     records: &[u8],
     low: u8,
     high: u8,
-    heads: &[u16],
-    nexts: &[u16],
+    chains: &[u16],
     a: &[u8],
     b: &[u8],
 ) -> usize
-    ensures { λ r. ⌜ r ≡ walkOf (drawn (now (text .entry)) (now (records .entry))) low high (now (heads .entry)) (now (nexts .entry)) (now (a .entry) ++ now (b .entry)) ⌝ }
+    ensures { λ r. ⌜ r ≡ walkOf (drawn (now (text .entry)) (now (records .entry))) low high (now (chains .entry)) (now (a .entry) ++ now (b .entry)) ⌝ }
 {
     let n = records.len() / SIZE;
-    if !room(n, heads.len(), nexts.len()) {
+    if !room(n, chains.len()) {
         return n;
     }
     let h = hash(hash(0, a), b);
-    walk(text, records, low, high, nexts, a, b, wide(heads[h]))
+    walk(text, records, low, high, chains, a, b, wide(chains[h]))
 }
 
 // The same for one label.
-pub fn find(
-    text: &[u8],
-    records: &[u8],
-    low: u8,
-    high: u8,
-    heads: &[u16],
-    nexts: &[u16],
-    label: &[u8],
-) -> usize
-    ensures { λ r. ⌜ r ≡ walkOf (drawn (now (text .entry)) (now (records .entry))) low high (now (heads .entry)) (now (nexts .entry)) (now (label .entry)) ⌝ }
+pub fn find(text: &[u8], records: &[u8], low: u8, high: u8, chains: &[u16], label: &[u8]) -> usize
+    ensures { λ r. ⌜ r ≡ walkOf (drawn (now (text .entry)) (now (records .entry))) low high (now (chains .entry)) (now (label .entry)) ⌝ }
 {
-    find_two(text, records, low, high, heads, nexts, label, b"")
+    find_two(text, records, low, high, chains, label, b"")
 }

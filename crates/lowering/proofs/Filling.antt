@@ -80,9 +80,9 @@ module _ (text records : List ℕ) (i : ℕ) (r : Record) (e : r ≡ decodeAt re
 -- ---- the ids of a label
 
 -- the shape that a label names has a number
-pub shape-in : (es : List Entry) (heads nexts numbers : List ℕ) (l : Layout) (ids : List ℕ) (naming : Naming) (third : ℕ) (label : Label) (out : List ℕ) (m : ℕ)
-    → Tables es heads nexts numbers → Addable es l ids naming third label out m → (s : Span) → s ≡ spanOf es naming third label → s .shape < length numbers
-shape-in es heads nexts numbers l ids naming third label out m t a s e = rw e (omega (arith, a .found, t .long))
+pub shape-in : (es : List Entry) (chains numbers : List ℕ) (l : Layout) (ids : List ℕ) (naming : Naming) (third : ℕ) (label : Label) (out : List ℕ) (m : ℕ)
+    → Tables es chains numbers → Addable es l ids naming third label out m → (s : Span) → s ≡ spanOf es naming third label → s .shape < length numbers
+shape-in es chains numbers l ids naming third label out m t a s e = rw e (omega (arith, a .found, t .long))
 
 module _ (es : List Entry) (l : Layout) (ids : List ℕ) (naming : Naming) (third : ℕ) (label : Label) (s : Span) (s-is : s ≡ spanOf es naming third label) where
   pub span-fits : s .first + s .count ≤ 6

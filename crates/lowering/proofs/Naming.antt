@@ -81,10 +81,10 @@ naming-is k q h =
 
 -- ---- spans
 
-module _ (text records heads nexts : List ℕ) (c : Chained (drawn text records) newPoint newArc heads nexts) (l : Label) (shape : ℕ) (found-it : shape ≡ walkOf (drawn text records) newPoint newArc heads nexts l) where
+module _ (text records chains : List ℕ) (c : Chained (drawn text records) newPoint newArc chains) (l : Label) (shape : ℕ) (found-it : shape ≡ walkOf (drawn text records) newPoint newArc chains l) where
   -- the record of the shape
   pub shape-is : shape ≡ shapeNo (drawn text records) l
-  shape-is = found-it ∙ found (drawn text records) newPoint newArc newPoint newArc heads nexts l c (omega arith) (omega arith)
+  shape-is = found-it ∙ found (drawn text records) newPoint newArc newPoint newArc chains l c (omega arith) (omega arith)
 
   kind-is : (k : ℕ) → k ≡ decodeAt records shape .kind → k ≡ kindNo (drawn text records) (shapeNo (drawn text records) l)
   kind-is k ek = rw (← shape-is) (ek ∙ sym (drawn-kind text records shape))

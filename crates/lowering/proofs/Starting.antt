@@ -20,9 +20,9 @@ use Rattle.lowering.specs.Steps.{pairFor}
 abbrev pub guessNo : List ℕ → List ℕ → Label → ℕ
 guessNo text records l = lowestOr (length (drawn text records)) (labelled (drawn text records) pairGuess numberGuess l)
 
-module _ (text records heads nexts : List ℕ) (c : Chained (drawn text records) pairGuess numberGuess heads nexts) (l : Label) where
-  pub guess-found : (g : Record) (i : ℕ) → i ≡ walkOf (drawn text records) pairGuess numberGuess heads nexts l → g ≡ decodeAt records i → g ≡ decodeAt records (guessNo text records l)
-  guess-found g i ei eg = eg ∙ ap (decodeAt records) (ei ∙ found (drawn text records) pairGuess numberGuess pairGuess numberGuess heads nexts l c (omega arith) (omega arith))
+module _ (text records chains : List ℕ) (c : Chained (drawn text records) pairGuess numberGuess chains) (l : Label) where
+  pub guess-found : (g : Record) (i : ℕ) → i ≡ walkOf (drawn text records) pairGuess numberGuess chains l → g ≡ decodeAt records i → g ≡ decodeAt records (guessNo text records l)
+  guess-found g i ei eg = eg ∙ ap (decodeAt records) (ei ∙ found (drawn text records) pairGuess numberGuess pairGuess numberGuess chains l c (omega arith) (omega arith))
 
 module _ (text records : List ℕ) (l suffix : Label) (g : Record) (e : g ≡ decodeAt records (guessNo text records (l ++ suffix))) where
   entry-is : guessOf (drawn text records) (l ++ suffix) ≡ entryOf text g

@@ -12,7 +12,7 @@ ghost use Rattle.lowering.specs.Lower.{onto};
 ghost use Rattle.lowering.specs.Steps.{pointSix, circleSix, arcSix, sixOf, Tables, namingBy, spanOf, spanIds, Addable, Added, Sayable, Begins, rowIds, rowAt, Writing, Wrote, Writable, rowsBelow};
 use crate::spans::number;
 use crate::spans::span_of;
-use index::HEADS;
+use index::CHAINS;
 use index::chain;
 use index::labels::kind_at;
 use index::labels::label_at;
@@ -110,8 +110,7 @@ fn wide(x: u16) -> usize
 fn add_label(
     text: &[u8],
     records: &[u8],
-    heads: &[u16],
-    nexts: &[u16],
+    chains: &[u16],
     numbers: &[u16],
     l: Layout,
     ids: &[u32],
@@ -121,10 +120,10 @@ fn add_label(
     out: &mut [u32],
     m: usize,
 ) -> usize
-    requires { ⌜ Tables (drawn (now text) (now records)) (now heads) (now nexts) (now numbers) × Addable (drawn (now text) (now records)) l (now ids) (namingBy code) third (now label) (now out) m ⌝ }
+    requires { ⌜ Tables (drawn (now text) (now records)) (now chains) (now numbers) × Addable (drawn (now text) (now records)) l (now ids) (namingBy code) third (now label) (now out) m ⌝ }
     ensures { λ r. ⌜ Added (spanIds (drawn (now (text .entry)) (now (records .entry))) l (now (ids .entry)) (spanOf (drawn (now (text .entry)) (now (records .entry))) (namingBy code) third (now (label .entry)))) (now (out .entry)) m r (now (out .exit)) ⌝ }
 {
-    let span = span_of(text, records, heads, nexts, code, third, label);
+    let span = span_of(text, records, chains, code, third, label);
     let shape = span.shape;
     let number = wide(numbers[shape]);
     let six = six_of(l, ids, kind_at(records, shape), number);
@@ -137,15 +136,14 @@ fn row_ids(
     kinds: &[[u8; 8]; 26],
     text: &[u8],
     records: &[u8],
-    heads: &[u16],
-    nexts: &[u16],
+    chains: &[u16],
     numbers: &[u16],
     l: Layout,
     ids: &[u32],
     i: usize,
     out: &mut [u32],
 ) -> usize
-    requires { ⌜ (now kinds ≡ table) × Tables (drawn (now text) (now records)) (now heads) (now nexts) (now numbers) × Sayable (drawn (now text) (now records)) l (now ids) i × (length (now out) ≡ mostIds) ⌝ }
+    requires { ⌜ (now kinds ≡ table) × Tables (drawn (now text) (now records)) (now chains) (now numbers) × Sayable (drawn (now text) (now records)) l (now ids) i × (length (now out) ≡ mostIds) ⌝ }
     ensures { λ r. ⌜ Begins (rowIds (drawn (now (text .entry)) (now (records .entry))) l (now (ids .entry)) (entryAt (drawn (now (text .entry)) (now (records .entry))) i)) (now (out .entry)) r (now (out .exit)) ⌝ }
 {
     let r = decode_record(records, i);
@@ -160,8 +158,7 @@ fn row_ids(
         m = add_label(
             text,
             records,
-            heads,
-            nexts,
+            chains,
             numbers,
             l,
             ids,
@@ -181,29 +178,17 @@ fn row_at(
     kinds: &[[u8; 8]; 26],
     text: &[u8],
     records: &[u8],
-    heads: &[u16],
-    nexts: &[u16],
+    chains: &[u16],
     numbers: &[u16],
     l: Layout,
     ids: &[u32],
     i: usize,
 ) -> [u8; 44]
-    requires { ⌜ (now kinds ≡ table) × Tables (drawn (now text) (now records)) (now heads) (now nexts) (now numbers) × Sayable (drawn (now text) (now records)) l (now ids) i ⌝ }
+    requires { ⌜ (now kinds ≡ table) × Tables (drawn (now text) (now records)) (now chains) (now numbers) × Sayable (drawn (now text) (now records)) l (now ids) i ⌝ }
     ensures { λ r. ⌜ r ≡ rowAt (drawn (now (text .entry)) (now (records .entry))) l (now (ids .entry)) i ⌝ }
 {
     let mut out = [0u32; 8];
-    let m = row_ids(
-        kinds,
-        text,
-        records,
-        heads,
-        nexts,
-        numbers,
-        l,
-        ids,
-        i,
-        &mut out,
-    );
+    let m = row_ids(kinds, text, records, chains, numbers, l, ids, i, &mut out);
     let r = decode_record(records, i);
     encode_row(Row {
         kind: r.kind,
@@ -219,8 +204,7 @@ fn write_row(
     kinds: &[[u8; 8]; 26],
     text: &[u8],
     records: &[u8],
-    heads: &[u16],
-    nexts: &[u16],
+    chains: &[u16],
     numbers: &[u16],
     l: Layout,
     ids: &[u32],
@@ -228,14 +212,14 @@ fn write_row(
     rows: &mut [u8],
     at: usize,
 ) -> usize
-    requires { ⌜ (now kinds ≡ table) × Tables (drawn (now text) (now records)) (now heads) (now nexts) (now numbers) × Writing (drawn (now text) (now records)) l (now ids) i (now rows) at ⌝ }
+    requires { ⌜ (now kinds ≡ table) × Tables (drawn (now text) (now records)) (now chains) (now numbers) × Writing (drawn (now text) (now records)) l (now ids) i (now rows) at ⌝ }
     ensures { λ r. ⌜ Wrote (drawn (now (text .entry)) (now (records .entry))) l (now (ids .entry)) i (now (rows .entry)) at r (now (rows .exit)) ⌝ }
 {
     let kind = kind_at(records, i);
     if (kind < FIRST_RULE) | (LAST_RULE < kind) {
         return at;
     }
-    let row = row_at(kinds, text, records, heads, nexts, numbers, l, ids, i);
+    let row = row_at(kinds, text, records, chains, numbers, l, ids, i);
     put(rows, at, &row);
     at + ROW
 }
@@ -245,33 +229,20 @@ fn write_rows(
     kinds: &[[u8; 8]; 26],
     text: &[u8],
     records: &[u8],
-    heads: &[u16],
-    nexts: &[u16],
+    chains: &[u16],
     numbers: &[u16],
     l: Layout,
     ids: &[u32],
     rows: &mut [u8],
 )
-    requires { ⌜ (now kinds ≡ table) × Tables (drawn (now text) (now records)) (now heads) (now nexts) (now numbers) × Writable (drawn (now text) (now records)) l (now ids) (now rows) ⌝ }
+    requires { ⌜ (now kinds ≡ table) × Tables (drawn (now text) (now records)) (now chains) (now numbers) × Writable (drawn (now text) (now records)) l (now ids) (now rows) ⌝ }
     ensures { λ _. ⌜ now (rows .exit) ≡ onto (now (rows .entry)) (rowsBelow (drawn (now (text .entry)) (now (records .entry))) l (now (ids .entry)) (length (drawn (now (text .entry)) (now (records .entry))))) ⌝ }
 {
     let n = records.len() / SIZE;
     let mut at = 0;
     let mut i = 0;
     while i < n {
-        at = write_row(
-            kinds,
-            text,
-            records,
-            heads,
-            nexts,
-            numbers,
-            l,
-            ids,
-            i,
-            rows,
-            at,
-        );
+        at = write_row(kinds, text, records, chains, numbers, l, ids, i, rows, at);
         i += 1;
     }
 }
@@ -284,18 +255,7 @@ pub(crate) fn fill_rows(text: &[u8], records: &[u8], l: Layout, ids: &[u32], row
     let kinds = KINDS;
     let mut numbers = [0u16; MOST];
     number(records, &mut numbers);
-    let mut heads = [0u16; HEADS];
-    let mut nexts = [0u16; MOST];
-    chain(text, records, NEW_POINT, NEW_ARC, &mut heads, &mut nexts);
-    write_rows(
-        &kinds,
-        text,
-        records,
-        &heads,
-        &nexts,
-        &numbers,
-        l,
-        ids,
-        rows,
-    );
+    let mut chains = [0u16; CHAINS];
+    chain(text, records, NEW_POINT, NEW_ARC, &mut chains);
+    write_rows(&kinds, text, records, &chains, &numbers, l, ids, rows);
 }

@@ -12,7 +12,7 @@ ghost use Rattle.layout.specs.Slots.{empty};
 ghost use Rattle.layout.specs.Push.{Push, state, nextOf};
 ghost use Rattle.lowering.specs.Steps.{pairFor, circleFor, arcFor, shapeFor, shapeOf, layoutAfter, pushedAt, pushedBelow, step as stepped, stage, laid, Slotted};
 use bits::from_bits;
-use index::HEADS;
+use index::CHAINS;
 use index::chain;
 use index::find_two;
 use index::labels::kind_at;
@@ -23,7 +23,6 @@ use layout::Layout;
 use layout::Point;
 use layout::Pushed;
 use layout::Stepped;
-use record::MOST;
 use record::Record;
 use record::SIZE;
 use record::decode::decode_record;
@@ -40,15 +39,8 @@ pub(crate) struct Laid {
 }
 
 // The guess whose label is a shape's with a suffix behind it.
-fn guess_of(
-    text: &[u8],
-    records: &[u8],
-    heads: &[u16],
-    nexts: &[u16],
-    label: &[u8],
-    suffix: &[u8],
-) -> Record
-    requires { ⌜ Chained (drawn (now text) (now records)) pairGuess numberGuess (now heads) (now nexts) ⌝ }
+fn guess_of(text: &[u8], records: &[u8], chains: &[u16], label: &[u8], suffix: &[u8]) -> Record
+    requires { ⌜ Chained (drawn (now text) (now records)) pairGuess numberGuess (now chains) ⌝ }
     ensures { λ r. ⌜ r ≡ decodeAt (now (records .entry)) (lowestOr (length (drawn (now (text .entry)) (now (records .entry)))) (labelled (drawn (now (text .entry)) (now (records .entry))) pairGuess numberGuess (now (label .entry) ++ now (suffix .entry)))) ⌝ }
 {
     decode_record(
@@ -58,8 +50,7 @@ fn guess_of(
             records,
             PAIR_GUESS,
             NUMBER_GUESS,
-            heads,
-            nexts,
+            chains,
             label,
             suffix,
         ),
@@ -67,18 +58,11 @@ fn guess_of(
 }
 
 // The pair that a part starts at.
-fn pair_of(
-    text: &[u8],
-    records: &[u8],
-    heads: &[u16],
-    nexts: &[u16],
-    label: &[u8],
-    suffix: &[u8],
-) -> Point
-    requires { ⌜ Chained (drawn (now text) (now records)) pairGuess numberGuess (now heads) (now nexts) ⌝ }
+fn pair_of(text: &[u8], records: &[u8], chains: &[u16], label: &[u8], suffix: &[u8]) -> Point
+    requires { ⌜ Chained (drawn (now text) (now records)) pairGuess numberGuess (now chains) ⌝ }
     ensures { λ r. ⌜ r ≡ pairFor (drawn (now (text .entry)) (now (records .entry))) (now (label .entry)) (now (suffix .entry)) ⌝ }
 {
-    let guess = guess_of(text, records, heads, nexts, label, suffix);
+    let guess = guess_of(text, records, chains, label, suffix);
     Point {
         x: from_bits(guess.x),
         y: from_bits(guess.y),
@@ -86,26 +70,26 @@ fn pair_of(
 }
 
 // The circle with a label, as it starts.
-fn circle_of(text: &[u8], records: &[u8], heads: &[u16], nexts: &[u16], label: &[u8]) -> Circle
-    requires { ⌜ Chained (drawn (now text) (now records)) pairGuess numberGuess (now heads) (now nexts) ⌝ }
+fn circle_of(text: &[u8], records: &[u8], chains: &[u16], label: &[u8]) -> Circle
+    requires { ⌜ Chained (drawn (now text) (now records)) pairGuess numberGuess (now chains) ⌝ }
     ensures { λ r. ⌜ r ≡ circleFor (drawn (now (text .entry)) (now (records .entry))) (now (label .entry)) ⌝ }
 {
-    let radius = guess_of(text, records, heads, nexts, label, b".radius");
+    let radius = guess_of(text, records, chains, label, b".radius");
     Circle {
-        center: pair_of(text, records, heads, nexts, label, b".center"),
+        center: pair_of(text, records, chains, label, b".center"),
         radius: from_bits(radius.x),
     }
 }
 
 // The arc with a label, as it starts.
-fn arc_of(text: &[u8], records: &[u8], heads: &[u16], nexts: &[u16], label: &[u8]) -> Arc
-    requires { ⌜ Chained (drawn (now text) (now records)) pairGuess numberGuess (now heads) (now nexts) ⌝ }
+fn arc_of(text: &[u8], records: &[u8], chains: &[u16], label: &[u8]) -> Arc
+    requires { ⌜ Chained (drawn (now text) (now records)) pairGuess numberGuess (now chains) ⌝ }
     ensures { λ r. ⌜ r ≡ arcFor (drawn (now (text .entry)) (now (records .entry))) (now (label .entry)) ⌝ }
 {
     Arc {
-        a: pair_of(text, records, heads, nexts, label, b".a"),
-        b: pair_of(text, records, heads, nexts, label, b".b"),
-        center: pair_of(text, records, heads, nexts, label, b".center"),
+        a: pair_of(text, records, chains, label, b".a"),
+        b: pair_of(text, records, chains, label, b".b"),
+        center: pair_of(text, records, chains, label, b".center"),
     }
 }
 
@@ -113,8 +97,7 @@ fn arc_of(text: &[u8], records: &[u8], heads: &[u16], nexts: &[u16], label: &[u8
 fn push_shape(
     text: &[u8],
     records: &[u8],
-    heads: &[u16],
-    nexts: &[u16],
+    chains: &[u16],
     kind: u8,
     label: &[u8],
     l: Layout,
@@ -122,7 +105,7 @@ fn push_shape(
     ids: &mut [u32],
     values: &mut [f64],
 ) -> Pushed
-    requires { ⌜ Chained (drawn (now text) (now records)) pairGuess numberGuess (now heads) (now nexts) ⌝ }
+    requires { ⌜ Chained (drawn (now text) (now records)) pairGuess numberGuess (now chains) ⌝ }
     ensures { λ r. ⌜ Push (shapeFor (drawn (now (text .entry)) (now (records .entry))) (shapeOf kind) (now (label .entry))) (state l next (now (ids .entry)) (now (values .entry))) r (now (ids .exit)) (now (values .exit)) ⌝ }
 {
     match kind {
@@ -130,20 +113,10 @@ fn push_shape(
             next,
             ids,
             values,
-            pair_of(text, records, heads, nexts, label, b""),
+            pair_of(text, records, chains, label, b""),
         ),
-        NEW_CIRCLE => l.push_circle(
-            next,
-            ids,
-            values,
-            circle_of(text, records, heads, nexts, label),
-        ),
-        _ => l.push_arc(
-            next,
-            ids,
-            values,
-            arc_of(text, records, heads, nexts, label),
-        ),
+        NEW_CIRCLE => l.push_circle(next, ids, values, circle_of(text, records, chains, label)),
+        _ => l.push_arc(next, ids, values, arc_of(text, records, chains, label)),
     }
 }
 
@@ -171,15 +144,14 @@ fn next_after(p: Pushed, next: u32) -> u32
 fn push_at(
     text: &[u8],
     records: &[u8],
-    heads: &[u16],
-    nexts: &[u16],
+    chains: &[u16],
     kind: u8,
     i: usize,
     last: Laid,
     ids: &mut [u32],
     values: &mut [f64],
 ) -> Laid
-    requires { ⌜ Chained (drawn (now text) (now records)) pairGuess numberGuess (now heads) (now nexts) ⌝ }
+    requires { ⌜ Chained (drawn (now text) (now records)) pairGuess numberGuess (now chains) ⌝ }
     ensures { λ r. ⌜ state (r .layout) (r .next) (now (ids .exit)) (now (values .exit)) ≡ pushedAt (drawn (now (text .entry)) (now (records .entry))) kind i (state (last .layout) (last .next) (now (ids .entry)) (now (values .entry))) ⌝ }
 {
     if kind_at(records, i) != kind {
@@ -188,18 +160,7 @@ fn push_at(
     let l = last.layout;
     let next = last.next;
     let label = label_at(text, records, i, 0);
-    let p = push_shape(
-        text,
-        records,
-        heads,
-        nexts,
-        kind,
-        label,
-        l,
-        next,
-        ids,
-        values,
-    );
+    let p = push_shape(text, records, chains, kind, label, l, next, ids, values);
     Laid {
         layout: layout_after(p, l),
         next: next_after(p, next),
@@ -210,21 +171,20 @@ fn push_at(
 fn push_all(
     text: &[u8],
     records: &[u8],
-    heads: &[u16],
-    nexts: &[u16],
+    chains: &[u16],
     kind: u8,
     start: Laid,
     ids: &mut [u32],
     values: &mut [f64],
 ) -> Laid
-    requires { ⌜ Chained (drawn (now text) (now records)) pairGuess numberGuess (now heads) (now nexts) ⌝ }
+    requires { ⌜ Chained (drawn (now text) (now records)) pairGuess numberGuess (now chains) ⌝ }
     ensures { λ r. ⌜ state (r .layout) (r .next) (now (ids .exit)) (now (values .exit)) ≡ pushedBelow (drawn (now (text .entry)) (now (records .entry))) kind (length (drawn (now (text .entry)) (now (records .entry)))) (state (start .layout) (start .next) (now (ids .entry)) (now (values .entry))) ⌝ }
 {
     let n = records.len() / SIZE;
     let mut last = start;
     let mut i = 0;
     while i < n {
-        last = push_at(text, records, heads, nexts, kind, i, last, ids, values);
+        last = push_at(text, records, chains, kind, i, last, ids, values);
         i += 1;
     }
     last
@@ -248,39 +208,37 @@ fn step(l: Laid) -> Laid
 fn push_stage(
     text: &[u8],
     records: &[u8],
-    heads: &[u16],
-    nexts: &[u16],
+    chains: &[u16],
     kind: u8,
     start: Laid,
     ids: &mut [u32],
     values: &mut [f64],
 ) -> Laid
-    requires { ⌜ Chained (drawn (now text) (now records)) pairGuess numberGuess (now heads) (now nexts) ⌝ }
+    requires { ⌜ Chained (drawn (now text) (now records)) pairGuess numberGuess (now chains) ⌝ }
     ensures { λ r. ⌜ state (r .layout) (r .next) (now (ids .exit)) (now (values .exit)) ≡ stage (drawn (now (text .entry)) (now (records .entry))) kind (state (start .layout) (start .next) (now (ids .entry)) (now (values .entry))) ⌝ }
 {
-    step(push_all(text, records, heads, nexts, kind, start, ids, values))
+    step(push_all(text, records, chains, kind, start, ids, values))
 }
 
 // Lays out all points, then all circles, then all arcs, from the next id on.
 fn lay(
     text: &[u8],
     records: &[u8],
-    heads: &[u16],
-    nexts: &[u16],
+    chains: &[u16],
     next: u32,
     ids: &mut [u32],
     values: &mut [f64],
 ) -> Laid
-    requires { ⌜ Chained (drawn (now text) (now records)) pairGuess numberGuess (now heads) (now nexts) ⌝ }
+    requires { ⌜ Chained (drawn (now text) (now records)) pairGuess numberGuess (now chains) ⌝ }
     ensures { λ r. ⌜ state (r .layout) (r .next) (now (ids .exit)) (now (values .exit)) ≡ laid (drawn (now (text .entry)) (now (records .entry))) (state empty next (now (ids .entry)) (now (values .entry))) ⌝ }
 {
     let none = Laid {
         layout: Layout::new(),
         next,
     };
-    let points = push_stage(text, records, heads, nexts, NEW_POINT, none, ids, values);
-    let circles = push_stage(text, records, heads, nexts, NEW_CIRCLE, points, ids, values);
-    push_stage(text, records, heads, nexts, NEW_ARC, circles, ids, values)
+    let points = push_stage(text, records, chains, NEW_POINT, none, ids, values);
+    let circles = push_stage(text, records, chains, NEW_CIRCLE, points, ids, values);
+    push_stage(text, records, chains, NEW_ARC, circles, ids, values)
 }
 
 // Fills the slots of a drawing, and hands back its layout.
@@ -294,16 +252,8 @@ pub(crate) fn fill_slots(
     requires { ⌜ length (drawn (now text) (now records)) ≤ mostRecords ⌝ }
     ensures { λ r. ⌜ Slotted (laid (drawn (now (text .entry)) (now (records .entry))) (state empty next (now (ids .entry)) (now (values .entry)))) r (now (ids .exit)) (now (values .exit)) ⌝ }
 {
-    let mut heads = [0u16; HEADS];
-    let mut nexts = [0u16; MOST];
-    chain(
-        text,
-        records,
-        PAIR_GUESS,
-        NUMBER_GUESS,
-        &mut heads,
-        &mut nexts,
-    );
-    let last = lay(text, records, &heads, &nexts, next, ids, values);
+    let mut chains = [0u16; CHAINS];
+    chain(text, records, PAIR_GUESS, NUMBER_GUESS, &mut chains);
+    let last = lay(text, records, &chains, next, ids, values);
     last.layout
 }

@@ -59,11 +59,11 @@ fn axis_at(third: u8) -> usize
 }
 
 // Every slot of a shape.
-fn whole_span(text: &[u8], records: &[u8], heads: &[u16], nexts: &[u16], label: &[u8]) -> Span
-    requires { ⌜ Chained (drawn (now text) (now records)) newPoint newArc (now heads) (now nexts) ⌝ }
+fn whole_span(text: &[u8], records: &[u8], chains: &[u16], label: &[u8]) -> Span
+    requires { ⌜ Chained (drawn (now text) (now records)) newPoint newArc (now chains) ⌝ }
     ensures { λ r. ⌜ r ≡ wholeSpan (drawn (now (text .entry)) (now (records .entry))) (now (label .entry)) ⌝ }
 {
-    let shape = find(text, records, NEW_POINT, NEW_ARC, heads, nexts, label);
+    let shape = find(text, records, NEW_POINT, NEW_ARC, chains, label);
     Span {
         shape,
         first: 0,
@@ -72,18 +72,11 @@ fn whole_span(text: &[u8], records: &[u8], heads: &[u16], nexts: &[u16], label: 
 }
 
 // The x or y of a shape's center.
-fn center_span(
-    text: &[u8],
-    records: &[u8],
-    heads: &[u16],
-    nexts: &[u16],
-    third: u8,
-    label: &[u8],
-) -> Span
-    requires { ⌜ Chained (drawn (now text) (now records)) newPoint newArc (now heads) (now nexts) ⌝ }
+fn center_span(text: &[u8], records: &[u8], chains: &[u16], third: u8, label: &[u8]) -> Span
+    requires { ⌜ Chained (drawn (now text) (now records)) newPoint newArc (now chains) ⌝ }
     ensures { λ r. ⌜ r ≡ centerSpan (drawn (now (text .entry)) (now (records .entry))) third (now (label .entry)) ⌝ }
 {
-    let shape = find(text, records, NEW_POINT, NEW_ARC, heads, nexts, label);
+    let shape = find(text, records, NEW_POINT, NEW_ARC, chains, label);
     Span {
         shape,
         first: center_by(kind_at(records, shape)) + axis_at(third),
@@ -103,23 +96,16 @@ fn ends_in(label: &[u8], suffix: &[u8]) -> bool
 }
 
 // The x or y of a point, or of the center that a dotted label names.
-fn part_span(
-    text: &[u8],
-    records: &[u8],
-    heads: &[u16],
-    nexts: &[u16],
-    third: u8,
-    label: &[u8],
-) -> Span
-    requires { ⌜ Chained (drawn (now text) (now records)) newPoint newArc (now heads) (now nexts) ⌝ }
+fn part_span(text: &[u8], records: &[u8], chains: &[u16], third: u8, label: &[u8]) -> Span
+    requires { ⌜ Chained (drawn (now text) (now records)) newPoint newArc (now chains) ⌝ }
     ensures { λ r. ⌜ r ≡ partSpan (drawn (now (text .entry)) (now (records .entry))) third (now (label .entry)) ⌝ }
 {
     if ends_in(label, b".center") {
         let n = label.len() - 7;
-        return center_span(text, records, heads, nexts, third, &label[..n]);
+        return center_span(text, records, chains, third, &label[..n]);
     }
     Span {
-        shape: find(text, records, NEW_POINT, NEW_ARC, heads, nexts, label),
+        shape: find(text, records, NEW_POINT, NEW_ARC, chains, label),
         first: axis_at(third),
         count: 1,
     }
@@ -129,19 +115,18 @@ fn part_span(
 pub(crate) fn span_of(
     text: &[u8],
     records: &[u8],
-    heads: &[u16],
-    nexts: &[u16],
+    chains: &[u16],
     code: u8,
     third: u8,
     label: &[u8],
 ) -> Span
-    requires { ⌜ Chained (drawn (now text) (now records)) newPoint newArc (now heads) (now nexts) ⌝ }
+    requires { ⌜ Chained (drawn (now text) (now records)) newPoint newArc (now chains) ⌝ }
     ensures { λ r. ⌜ r ≡ spanOf (drawn (now (text .entry)) (now (records .entry))) (namingBy code) third (now (label .entry)) ⌝ }
 {
     match code {
-        ASSIGNED => part_span(text, records, heads, nexts, third, label),
-        ROUND => center_span(text, records, heads, nexts, third, label),
-        _ => whole_span(text, records, heads, nexts, label),
+        ASSIGNED => part_span(text, records, chains, third, label),
+        ROUND => center_span(text, records, chains, third, label),
+        _ => whole_span(text, records, chains, label),
     }
 }
 

@@ -15,28 +15,28 @@ use Rattle.drawing.proofs.check_by.Statement.{statement}
 use Rattle.drawing.proofs.check_by.Tie as tie
 
 abbrev Inv-loop : tie.InvT-loop
-Inv-loop kinds text records heads nexts guess-heads guess-nexts n order k₀ k =
+Inv-loop kinds text records chains guess-chains n order k₀ k =
     (k ≤ length behind30) × (checkOf (drawn text records) ≡ first (drop k behind30) (test (drawn text records)) (countOf records))
 
 abbrev μ-loop : tie.MeasureT-loop
-μ-loop kinds text records heads nexts guess-heads guess-nexts n order k₀ k = length behind30 - k
+μ-loop kinds text records chains guess-chains n order k₀ k = length behind30 - k
 
 loop-holds : tie.Need-loop-holds Inv-loop μ-loop
 loop-holds c =
-    let s = c .before .before .before .before .before .before in
+    let s = c .before .before .before .before in
     (omega arith, check-is (s .args .text .now) (s .args .records .now) (s .pre .0))
 
 -- what was looked for by the number of fault k
-found : (c : tie.After-lowest-bad Inv-loop μ-loop) → let a = c .before .before .before .before .before .before .before .before .before .args in
+found : (c : tie.After-lowest-bad Inv-loop μ-loop) → let a = c .before .before .before .before .before .before .before .args in
     c .lowest-bad .result ≡ lowestOr (countOf (a .records .now)) (test (drawn (a .text .now) (a .records .now)) (faultAt (c .before .before .loop .k)))
 found c =
-    let a = c .before .before .before .before .before .before .before .before .before .args in
+    let a = c .before .before .before .before .before .before .before .args in
     c .lowest-bad .ensures
     ∙ ap (lowestOr (countOf (a .records .now))) (test-at (drawn (a .text .now) (a .records .now)) (c .before .before .loop .k) (omega (arith, c .before .loop-test .taken)))
 
 returns : tie.Need-returns Inv-loop μ-loop
 returns c =
-    let s = c .before .before .before .before .before .before .before .before .before .before in
+    let s = c .before .before .before .before .before .before .before .before in
     let a = s .args in
     let l = c .before .before .before .loop in
     told-behind (a .text .now) (a .records .now) (s .pre .0) (l .k) (c .before .lowest-bad .result) (omega arith)
@@ -44,7 +44,7 @@ returns c =
 
 loop-again : tie.Need-loop-again Inv-loop μ-loop
 loop-again c =
-    let a = c .before .before .before .before .before .before .before .before .before .before .args in
+    let a = c .before .before .before .before .before .before .before .before .args in
     let l = c .before .before .before .loop in (
       omega arith,
       l .inv .1 ∙ goes-on (test (drawn (a .text .now) (a .records .now))) (countOf (a .records .now)) (l .k) (omega arith) (c .before .lowest-bad .result) (found (c .before)) (omega arith),
@@ -52,7 +52,7 @@ loop-again c =
 
 returns-2 : tie.Need-returns-2 Inv-loop μ-loop
 returns-2 c =
-    let s = c .before .before .before .before .before .before .before .before .before .before .before .before in
+    let s = c .before .before .before .before .before .before .before .before .before .before in
     let a = s .args in
     let l = c .before .before .before .before .before .loop in
     told-none (a .text .now) (a .records .now) (s .pre .0) _ _ _ _

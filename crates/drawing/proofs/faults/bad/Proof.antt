@@ -8,27 +8,27 @@ use Rattle.drawing.proofs.faults.bad.Tie as tie
 
 returns : tie.Need-returns
 returns c =
-    let e : c .before .before .before .before .before .before .before .before .args .number ≡ 31 = omega arith in
+    let e : c .before .before .before .before .before .before .args .number ≡ 31 = omega arith in
     c .twice .ensures ∙ rw e refl
 
 returns-2 : tie.Need-returns-2
 returns-2 c =
-    let e : c .before .before .before .before .before .before .before .before .args .number ≡ 32 = omega arith in
+    let e : c .before .before .before .before .before .before .args .number ≡ 32 = omega arith in
     c .wrong-label .ensures ∙ rw e refl
 
 returns-3 : tie.Need-returns-3
 returns-3 c =
-    let e : c .before .before .before .before .before .before .before .before .args .number ≡ 33 = omega arith in
+    let e : c .before .before .before .before .before .before .args .number ≡ 33 = omega arith in
     c .no-such-part .ensures ∙ rw e refl
 
 returns-4 : tie.Need-returns-4
 returns-4 c =
-    let e : c .before .before .before .before .before .before .before .before .args .number ≡ 34 = omega arith in
+    let e : c .before .before .before .before .before .before .args .number ≡ 34 = omega arith in
     c .twice2 .ensures ∙ rw e refl
 
 returns-5 : tie.Need-returns-5
 returns-5 c =
-    let e : c .before .before .before .before .before .before .before .before .args .number ≡ 35 = omega arith in
+    let e : c .before .before .before .before .before .before .args .number ≡ 35 = omega arith in
     c .without-guess .ensures ∙ rw e refl
 
 returns-6 : tie.Need-returns-6

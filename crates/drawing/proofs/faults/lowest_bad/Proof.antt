@@ -14,17 +14,17 @@ use Rattle.drawing.proofs.faults.lowest_bad.Statement.{statement}
 use Rattle.drawing.proofs.faults.lowest_bad.Tie as tie
 
 abbrev Inv-loop : tie.InvT-loop
-Inv-loop kinds text records heads nexts guess-heads guess-nexts number n i₀ i = (n ≡ countOf records) × (i ≤ n) × EachBelow i (λ j. testNo (drawn text records) number j ≡ false)
+Inv-loop kinds text records chains guess-chains number n i₀ i = (n ≡ countOf records) × (i ≤ n) × EachBelow i (λ j. testNo (drawn text records) number j ≡ false)
 
 abbrev μ-loop : tie.MeasureT-loop
-μ-loop kinds text records heads nexts guess-heads guess-nexts number n i₀ i = n - i
+μ-loop kinds text records chains guess-chains number n i₀ i = n - i
 
 loop-holds : tie.Need-loop-holds Inv-loop μ-loop
 loop-holds c = (refl, omega arith, below-none _)
 
 returns : tie.Need-returns Inv-loop μ-loop
 returns c =
-    let a = c .before .before .before .before .before .before .before .before .before .before .args in
+    let a = c .before .before .before .before .before .before .before .before .args in
     let l = c .before .before .before .loop in
     lowest-here (countOf (a .records .now)) (testNo (drawn (a .text .now) (a .records .now)) (a .number)) (l .i) (omega arith) (sym (c .before .bad .ensures) ∙ c .if1 .taken) (l .inv .2)
 
@@ -35,7 +35,7 @@ loop-again c =
 
 returns-2 : tie.Need-returns-2 Inv-loop μ-loop
 returns-2 c =
-    let a = c .before .before .before .before .before .before .before .before .args in
+    let a = c .before .before .before .before .before .before .args in
     let l = c .before .loop in
     lowest-nowhere (countOf (a .records .now)) (testNo (drawn (a .text .now) (a .records .now)) (a .number)) (λ j h. l .inv .2 j (omega arith))
 

@@ -9,19 +9,19 @@ use Rattle.drawing.proofs.faults.wrong_label.Tie as tie
 
 any-wrong-requires : tie.Need-any-wrong-requires
 any-wrong-requires c κs =
-    let s = c .before .before .before .before .before .before in
+    let s = c .before .before .before .before .before in
     let kind = c .before .kind-at in
     (s .pre .0, s .pre .1, says-within firstRule lastRule (kind .result) .so (c .if1 .taken), kind .ensures)
 
 returns : tie.Need-returns
 returns c =
-    let a = c .before .before .before .before .before .before .before .args in
+    let a = c .before .before .before .before .before .before .args in
     c .any-wrong .ensures
     ∙ wrong-label-yes (a .text .now) (a .records .now) (a .i) _ (c .before .before .kind-at .ensures) (c .before .if1 .taken)
 
 returns-2 : tie.Need-returns-2
 returns-2 c =
-    let a = c .before .before .before .before .before .before .args in
+    let a = c .before .before .before .before .before .args in
     wrong-label-no (a .text .now) (a .records .now) (a .i) _ (c .before .kind-at .ensures) (c .if1 .left)
 
 pub wrong-label-spec : {M : Type 1} → statement M

@@ -1,6 +1,5 @@
 -- `index::labels::label_of` meets its contract: a label is there up to the count of labels, and up to the places of the record's form. Assumes nothing.
 use borrow.Author.Needs.{needs}
-use mathlib.Core.Path.{_∙_}
 use Prim.Native.Nat.{_+_, _*_, _<_}
 use native.Mathlib.Omega.{arith}
 use lib.ListN.{getD}

@@ -13,7 +13,7 @@ use Rattle.lowering.proofs.rules.add_label.Tie as tie
 
 mul-wide : tie.Need-mul-wide
 mul-wide c =
-    let s = c .before .before .before .before .before .before .before .before .before in
+    let s = c .before .before .before .before .before .before .before .before in
     let a = s .args in
     let es = drawn (a .text .now) (a .records .now) in
     let span = c .span-of in
@@ -22,7 +22,7 @@ mul-wide c =
 
 shared-slice-read-wide : tie.Need-shared-slice-read-wide
 shared-slice-read-wide c =
-    let s = c .before .before .before .before .before .before .before .before .before .before in
+    let s = c .before .before .before .before .before .before .before .before .before in
     let a = s .args in
     let es = drawn (a .text .now) (a .records .now) in
     let span = c .before .span-of in
@@ -30,7 +30,7 @@ shared-slice-read-wide c =
 
 append-requires : tie.Need-append-requires
 append-requires c κs =
-    let s = c .before .before .before .before .before .before .before .before .before .before .before .before .before .before in
+    let s = c .before .before .before .before .before .before .before .before .before .before .before .before .before in
     let a = s .args in
     let es = drawn (a .text .now) (a .records .now) in
     let span = c .before .before .before .before .before .span-of in
@@ -40,7 +40,7 @@ append-requires c κs =
 
 add-result : tie.Need-add-result
 add-result c =
-    let s = c .before .before .before .before .before .before .before .before .before .before .before .before .before .before .before .before .before .before in
+    let s = c .before .before .before .before .before .before .before .before .before .before .before .before .before .before .before .before .before in
     let a = s .args in
     let es = drawn (a .text .now) (a .records .now) in
     let span = c .before .before .before .before .before .before .before .before .before .span-of in
@@ -49,7 +49,7 @@ add-result c =
 
 returns : tie.Need-returns
 returns c =
-    let s = c .before .before .before .before .before .before .before .before .before .before .before .before .before .before .before .before .before .before in
+    let s = c .before .before .before .before .before .before .before .before .before .before .before .before .before .before .before .before .before in
     let a = s .args in
     let es = drawn (a .text .now) (a .records .now) in
     let span = c .before .before .before .before .before .before .before .before .before .span-of in

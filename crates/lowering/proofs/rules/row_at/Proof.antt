@@ -6,7 +6,7 @@ use Rattle.lowering.proofs.rules.row_at.Tie as tie
 
 returns : tie.Need-returns
 returns c =
-    let a = c .before .before .before .before .before .before .before .before .before .before .before .args in
+    let a = c .before .before .before .before .before .before .before .before .before .before .args in
     row-is (a .text .now) (a .records .now) (a .l) (a .ids .now) (a .i) _ (c .before .decode-record .ensures) _ _ (c .before .before .before .row-ids .ensures) _ (c .encode-row .ensures)
 
 pub row-at-spec : {M : Type 1} → statement M

@@ -12,21 +12,21 @@ use Rattle.lowering.proofs.rules.row_ids.Statement.{statement}
 use Rattle.lowering.proofs.rules.row_ids.Tie as tie
 
 abbrev Inv-loop : tie.InvT-loop
-Inv-loop kinds text records heads nexts numbers l ids i out₀ kind third n m₀ q₀ out m q =
+Inv-loop kinds text records chains numbers l ids i out₀ kind third n m₀ q₀ out m q =
     (length (entryAt (drawn text records) i .labels) ≡ n) × Filling (drawn text records) l ids i out₀ m out q
 
 abbrev μ-loop : tie.MeasureT-loop
-μ-loop kinds text records heads nexts numbers l ids i out₀ kind third n m₀ q₀ out m q = n - q
+μ-loop kinds text records chains numbers l ids i out₀ kind third n m₀ q₀ out m q = n - q
 
 loop-holds : tie.Need-loop-holds Inv-loop μ-loop
 loop-holds c =
-    let s = c .before .before .before .before .before .before .before .before .before in
+    let s = c .before .before .before .before .before .before .before .before in
     let a = s .args in
     (labels-count (a .text .now) (a .records .now) (a .i) _ (c .before .decode-record .ensures) (a .kinds .now) (s .pre .0) (a .l) (a .ids .now) (s .pre .2) _ (c .look .ensures), filling-start _ _ _ _ _)
 
 add-label-requires : tie.Need-add-label-requires Inv-loop μ-loop
 add-label-requires c κs =
-    let s = c .before .before .before .before .before .before .before .before .before .before .before .before .before .before in
+    let s = c .before .before .before .before .before .before .before .before .before .before .before .before .before in
     let a = s .args in
     let i = c .before .before .before .before .loop in
     let name = c .before .before .label-at .ensures .is ∙ sym (drawn-label (a .text .now) (a .records .now) (a .i) _) in
@@ -35,7 +35,7 @@ add-label-requires c κs =
 
 loop-again : tie.Need-loop-again Inv-loop μ-loop
 loop-again c =
-    let s = c .before .before .before .before .before .before .before .before .before .before .before .before .before .before .before .before .before in
+    let s = c .before .before .before .before .before .before .before .before .before .before .before .before .before .before .before .before in
     let a = s .args in
     let i = c .before .before .before .before .before .before .before .loop in
     let name = c .before .before .before .before .before .label-at .ensures .is ∙ sym (drawn-label (a .text .now) (a .records .now) (a .i) _) in

@@ -9,24 +9,24 @@ use Rattle.lowering.proofs.rules.write_rows.Statement.{statement}
 use Rattle.lowering.proofs.rules.write_rows.Tie as tie
 
 abbrev Inv-loop : tie.InvT-loop
-Inv-loop kinds text records heads nexts numbers l ids rows₀ n at₀ i₀ rows at i = Writes (drawn text records) l ids rows₀ rows at i
+Inv-loop kinds text records chains numbers l ids rows₀ n at₀ i₀ rows at i = Writes (drawn text records) l ids rows₀ rows at i
 
 abbrev μ-loop : tie.MeasureT-loop
-μ-loop kinds text records heads nexts numbers l ids rows₀ n at₀ i₀ rows at i = n - i
+μ-loop kinds text records chains numbers l ids rows₀ n at₀ i₀ rows at i = n - i
 
 loop-holds : tie.Need-loop-holds Inv-loop μ-loop
 loop-holds c = writes-start _ _ _ _
 
 write-row-requires : tie.Need-write-row-requires Inv-loop μ-loop
 write-row-requires c κs =
-    let s = c .before .before .before .before .before .before .before .before .before .before in
+    let s = c .before .before .before .before .before .before .before .before .before in
     let a = s .args in
     let es = drawn (a .text .now) (a .records .now) in
     (s .pre .0, s .pre .1, writing es (a .l) (a .ids .now) (a .rows .now) (s .pre .2) (c .before .before .loop .inv) (rw (drawn-length (a .text .now) (a .records .now)) (omega arith)))
 
 loop-again : tie.Need-loop-again Inv-loop μ-loop
 loop-again c =
-    let s = c .before .before .before .before .before .before .before .before .before .before .before .before .before in
+    let s = c .before .before .before .before .before .before .before .before .before .before .before .before in
     let a = s .args in
     let es = drawn (a .text .now) (a .records .now) in
     let w = c .before .before .write-row in
@@ -34,7 +34,7 @@ loop-again c =
 
 returns : tie.Need-returns Inv-loop μ-loop
 returns c =
-    let a = c .before .before .before .before .before .before .before .before .before .args in
+    let a = c .before .before .before .before .before .before .before .before .args in
     writes-end _ _ _ _ (c .before .loop .inv) (rw (drawn-length (a .text .now) (a .records .now)) (omega arith))
 
 pub write-rows-spec : {M : Type 1} → statement M

@@ -11,10 +11,10 @@ use Rattle.lowering.proofs.shapes.push_all.Statement.{statement}
 use Rattle.lowering.proofs.shapes.push_all.Tie as tie
 
 abbrev Inv-loop : tie.InvT-loop
-Inv-loop text records heads nexts kind ids₀ values₀ n last₀ i₀ ids values last i = Pushes (drawn text records) kind (state (last₀ .layout) (last₀ .next) ids₀ values₀) (state (last .layout) (last .next) ids values) i
+Inv-loop text records chains kind ids₀ values₀ n last₀ i₀ ids values last i = Pushes (drawn text records) kind (state (last₀ .layout) (last₀ .next) ids₀ values₀) (state (last .layout) (last .next) ids values) i
 
 abbrev μ-loop : tie.MeasureT-loop
-μ-loop text records heads nexts kind ids₀ values₀ n last₀ i₀ ids values last i = countOf records - i
+μ-loop text records chains kind ids₀ values₀ n last₀ i₀ ids values last i = countOf records - i
 
 loop-holds : tie.Need-loop-holds Inv-loop μ-loop
 loop-holds c = pushes-start
