@@ -10,7 +10,7 @@ use native.Mathlib.Omega.{arith}
 use lib.ListN.{List·getD-eq-default, length, getD, take, drop, replicate, length-append, length-map, length-replicate}
 use lib.Seq.{take-length, length-take-le, getD-take, getD-drop, getD-at, getD-append-add}
 use Rattle.record.specs.Record.{le64}
-use Rattle.layout.specs.Refusals.{idsEnd}
+use Rattle.layout.specs.Slots.{idsEnd}
 use Rattle.record.specs.Decode.{byte}
 use Rattle.record.specs.Entry.{Label, Entry, noEntry, entryAt}
 use Rattle.index.specs.Labels.{kindNo, within}
