@@ -22,18 +22,20 @@ use Rattle.drawing.specs.Check.{checkOf}
 use Rattle.lowering.specs.declared.Lowered.{Lowered}
 use Rattle.lowering.specs.declared.Lowered.the-variants as L
 use Rattle.lowering.specs.Slots.{slots, layoutOf, valuesOf}
-use Rattle.lowering.specs.Rows.{Row, rowFor, rulesOf, rowsOf, rowBytes, encodeRow, encodeRows}
+use Rattle.row.specs.Row.{Row, rowBytes, encodeRow, encodeRows, decodeRow, rowOf, RowFits}
+use Rattle.lowering.specs.Rows.{rowFor, rulesOf, rowsOf}
 use Rattle.lowering.specs.Lower.{Room, roomIn, lowerOf, Lowers}
 use Rattle.lowering.specs.Demand.{Enough}
-use Rattle.lowering.proofs.Bytes.{length-row, ids-given, count-rows}
+use Rattle.row.proofs.Back.{length-row}
+use Rattle.lowering.proofs.Bytes.{ids-given, count-rows}
 use Rattle.lowering.proofs.Counts.{says-within, rules-pick}
 use Rattle.lowering.proofs.Fine.{Fine, fine}
 use Rattle.lowering.proofs.Lacking.{lower-good, lower-refused}
-use Rattle.lowering.proofs.Lists.{Each, each-map, each-at, length-flat, piece-at, getD-map, map-each, picks-each}
+use Rattle.ground.proofs.Pieces.{Each, each-map, each-at, length-flat, piece-at, getD-map, map-each, picks-each}
 use Rattle.lowering.proofs.Rows.{ids-few}
 use Rattle.lowering.proofs.Values.{length-values}
-use Rattle.lines.specs.Drawn.{loweredLine, slotLine, decodeRow, rowOf, rowLine}
-use Rattle.lines.proofs.RowBack.{RowFits, row-printed}
+use Rattle.lines.specs.Drawn.{loweredLine, slotLine, rowLine}
+use Rattle.lines.proofs.RowBack.{row-printed}
 use Rattle.answers.specs.Answers.{slotLines, drawingLines}
 use Rattle.answers.specs.Steps.{Read, slotsBy, loweredBy}
 use Rattle.answers.proofs.Joined.{up-to-same, up-to-map}
@@ -88,7 +90,7 @@ module _ (s : List ℕ) (short : length s ≤ 32768) (w : Fine (linesOf s)) (lef
       (λ j g t.
       record {
         few = ids-few (linesOf s) w 0 j g (says-within 4 23 (kindNo (linesOf s) j) .so t);
-        ids-fit = λ q b. id-fits (entryAt (linesOf s) j) q;
+        ids-fit = λ q. id-fits (entryAt (linesOf s) j) q;
         bits-fit = bits-fit j g;
       }))
 
@@ -177,7 +179,7 @@ module _ {s bs : List ℕ} (read : Read s bs) {told : Lowered} {ids : List ℕ} 
     fits = rows-fit s (read .short) (fine (linesOf s) passes) (slots-most (linesOf s) few)
 
     written-length : length (encodeRows (rowsOf (linesOf s) 0)) ≡ count * rowBytes
-    written-length = omega (arith, rows-length (rowsOf (linesOf s) 0) fits, count-rows (linesOf s) (fine (linesOf s) passes) 0, count-is)
+    written-length = omega (arith, rows-length (rowsOf (linesOf s) 0) fits, count-rows (linesOf s) 0, count-is)
 
     -- what was written
     ids-taken : take next ids ≡ onward 0 (length (slots (linesOf s)))

@@ -5,7 +5,7 @@ use Prim.Native.Nat.{ℕ, zero, suc, _+_, _<_}
 use native.Mathlib.Omega.{arith}
 use lib.ListN.{length, getD}
 use Rattle.record.specs.Entry.{upTo}
-use Rattle.lines.specs.Lines.{joined}
+use Rattle.rail.specs.Words.{joined}
 
 -- one line more
 pub joined-more : (n : ℕ) (f : ℕ → List ℕ) → joined (upTo (n + 1) f) ≡ joined (upTo n f) ++ f n

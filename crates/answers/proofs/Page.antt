@@ -12,7 +12,8 @@ use Rattle.print.specs.Print.{lastDigits, hexOf, widthUpTo, decimalOf}
 use Rattle.record.specs.Entry.{entryOf}
 use Rattle.reader.specs.Forms.{aroundOn, eitherOn, pairOn, declareOn, fixedOn, assignOn, moreOn, angleOn, partOn, gapOn, keywordOn, firstOf, labelFormsOn, instructionOn, guessedOn, guessOn}
 use Rattle.reader.specs.Page.{restOf, linesOn, headingOn, optNewlineOn, problemOf, readingOf}
-use Rattle.lines.specs.Lines.{quoted, spaced, firstLine, lineOf}
+use Rattle.rail.specs.Words.{quoted, spaced}
+use Rattle.lines.specs.Lines.{firstLine, lineOf}
 use Rattle.answers.specs.Answers.{listingOf}
 
 -- the page, with a new line at the end

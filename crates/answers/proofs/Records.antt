@@ -15,7 +15,8 @@ use Rattle.reader.specs.declared.Reading.the-variants.{Good, Refused}
 use Rattle.reader.specs.Page.{mostRecords, problemOf, readingOf, recordsIn, linesOf, Reads}
 use Rattle.reader.proofs.Written.{read-back}
 use Rattle.reader.proofs.WellRead.{page-read, bytes-read, entries-read}
-use Rattle.lines.specs.Lines.{joined, refusedLine, firstLine, lineOf}
+use Rattle.rail.specs.Words.{joined}
+use Rattle.lines.specs.Lines.{refusedLine, firstLine, lineOf}
 use Rattle.answers.specs.declared.Way.{Way}
 use Rattle.answers.specs.declared.Way.the-variants.{Plain, Whole, Check, Rows}
 use Rattle.answers.specs.Answers.{recordRoom, listed, listingOf, checkingOf, loweringOf, answerOf}

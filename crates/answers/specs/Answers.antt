@@ -14,7 +14,8 @@ use Rattle.drawing.specs.Check.{checkOf, checkedOf}
 use Rattle.lowering.specs.declared.Lowered.the-variants as lowered
 use Rattle.lowering.specs.Slots.{slots, layoutOf, valuesOf}
 use Rattle.lowering.specs.Rows.{rulesOf, rowsOf}
-use Rattle.lines.specs.Lines.{joined, refusedLine, firstLine, lineOf}
+use Rattle.rail.specs.Words.{joined}
+use Rattle.lines.specs.Lines.{refusedLine, firstLine, lineOf}
 use Rattle.lines.specs.Drawn.{checkedLine, loweredLine, slotLine, rowLine}
 use Rattle.answers.specs.declared.Way.{Way}
 use Rattle.answers.specs.declared.Way.the-variants.{Plain, Whole, Check, Rows}

@@ -13,9 +13,10 @@ use Rattle.reader.specs.declared.Reading.{Reading}
 use Rattle.reader.specs.Page.{longestText, mostRecords, recordsIn, linesOf}
 use Rattle.drawing.specs.Check.{checkOf, checkedOf}
 use Rattle.lowering.specs.declared.Lowered.{Lowered}
-use Rattle.lowering.specs.Rows.{rowBytes}
-use Rattle.lines.specs.Lines.{joined, firstLine, lineOf}
-use Rattle.lines.specs.Drawn.{checkedLine, loweredLine, slotLine, decodeRow, rowOf, rowLine}
+use Rattle.row.specs.Row.{rowBytes, decodeRow, rowOf}
+use Rattle.rail.specs.Words.{joined}
+use Rattle.lines.specs.Lines.{firstLine, lineOf}
+use Rattle.lines.specs.Drawn.{checkedLine, loweredLine, slotLine, rowLine}
 use Rattle.answers.specs.declared.Way.{Way}
 use Rattle.answers.specs.declared.Way.the-variants.{Plain, Whole, Check, Rows}
 use Rattle.answers.specs.Answers.{listed, drawingLines}

@@ -4,13 +4,14 @@ ghost use mathlib.Core.Bool.{true};
 ghost use lib.ListN.{length};
 ghost use Rattle.reader.specs.Page.{linesOf};
 ghost use Rattle.drawing.specs.Check.{checkOf};
-ghost use Rattle.lines.specs.declared.Place.the-variants.{At};
-ghost use Rattle.lines.specs.Rail.{Prints, Adds};
+ghost use Rattle.rail.specs.declared.Place.the-variants.{At};
+ghost use Rattle.rail.specs.Rail.{Prints};
+ghost use Rattle.rail.specs.Steps.{Adds};
 ghost use Rattle.answers.specs.Answers.{drawingLines};
 ghost use Rattle.answers.specs.Steps.{Read, slotsBy, loweredBy};
-use lines::Place;
 use lowering::Lowered;
-use lowering::ROW;
+use rail::Place;
+use row::ROW;
 
 // Room for six slots for each of 1,800 records, and for a row of 44 bytes for each.
 const SLOTS: usize = 10_800;

@@ -5,11 +5,11 @@ mod listed;
 
 ghost use mathlib.Core.Bool.{true};
 ghost use Rattle.reader.specs.Page.{Reads};
-ghost use Rattle.lines.specs.declared.Place.the-variants.{At};
-ghost use Rattle.lines.specs.Rail.{Prints};
+ghost use Rattle.rail.specs.declared.Place.the-variants.{At};
+ghost use Rattle.rail.specs.Rail.{Prints};
 ghost use Rattle.answers.specs.Answers.{listingOf, checkingOf, loweringOf, answerOf};
 ghost use Rattle.answers.specs.Steps.{wholeBy, toldBy, Read};
-use lines::Place;
+use rail::Place;
 use reader::Reading;
 use record::SIZE;
 

@@ -1,9 +1,10 @@
 // The lines of a listing, one after the other: first measured, and then written.
 ghost use mathlib.Core.Bool.{true};
-ghost use Rattle.lines.specs.declared.Place.the-variants.{At};
-ghost use Rattle.lines.specs.Rail.{Prints, Adds};
+ghost use Rattle.rail.specs.declared.Place.the-variants.{At};
+ghost use Rattle.rail.specs.Rail.{Prints};
+ghost use Rattle.rail.specs.Steps.{Adds};
 ghost use Rattle.answers.specs.Steps.{listedBy};
-use lines::Place;
+use rail::Place;
 use reader::Reading;
 use record::SIZE;
 

@@ -7,7 +7,7 @@ use lib.ListN.{length}
 use Rattle.refusal.specs.First.{passed, refused, Nowhere, Told}
 use Rattle.refusal.proofs.Says.{Says, says-not, says-and, says-or, says-never, says-iff, says-eq, says-any}
 use Rattle.refusal.proofs.Right.{refused-iff, passed-iff}
-use Rattle.record.specs.Kinds.{kindAt}
+use Rattle.record.specs.Kinds.{kindAt, newPoint, newArc, pairGuess, numberGuess}
 use Rattle.record.specs.Entry.{Label, Entry, entryAt, labelNo}
 use Rattle.record.specs.Formed.{places}
 use Rattle.record.proofs.Told.{says-malformed}
@@ -87,10 +87,10 @@ module _ (es : List Entry) where
   -- each test says its fault
   pub agree : (f : Fault) (i : ℕ) → Says (test es f i) (Holds es f i)
   agree malformed i = says-malformed es i
-  agree declared-twice i = says-twice i 1 3
+  agree declared-twice i = says-twice i newPoint newArc
   agree wrong-label i = says-wrong-label i
   agree no-such-part i = says-no-such-part i
-  agree guessed-twice i = says-twice i 24 25
+  agree guessed-twice i = says-twice i pairGuess numberGuess
   agree without-guess i = says-without-guess i
 
   -- ---- the check tells the first fault of the order, at the lowest place

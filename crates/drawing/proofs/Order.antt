@@ -2,19 +2,24 @@
 use mathlib.Core.Path.{_≡_, refl, sym, ap, _∙_, subst}
 use mathlib.Core.Bool.{Bool, false}
 use mathlib.Core.Option.{Option, none, some}
-use mathlib.Core.List.{List}
-use Prim.Native.Nat.{ℕ, zero, suc, _+_, _≤_, _<_}
+use mathlib.Core.List.{List, map}
+use Prim.Native.Nat.{ℕ, suc, _+_, _≤_, _<_}
 use native.Mathlib.Nat.{le-refl}
 use native.Mathlib.Numerals.{add-one}
 use native.Mathlib.Omega.{arith}
-use lib.ListN.{length, drop, drop-of-length-le, List·getD-eq-default}
+use lib.ListN.{length, getD, drop, drop-of-length-le, List·getD-eq-default}
 use lib.Seq.{drop-cons}
+use Rattle.ground.proofs.Pieces.{Each, each-at, getD-map}
+use Rattle.refusal.specs.Refusal.{refusal}
 use Rattle.refusal.specs.First.{passed, refused, tell, first, lowest, orElse}
 use Rattle.refusal.proofs.Search.{none-iff}
 use Rattle.record.specs.declared.formed.Formed.the-variants as formed
+use Rattle.record.specs.Record.{mostRecords}
+use Rattle.record.specs.Kinds.{newPoint, newCircle, newArc, firstRule, lastRule, pairGuess, numberGuess}
 use Rattle.record.specs.Decode.{countOf, decodeAt}
 use Rattle.record.specs.Entry.{Entry, noEntry}
-use Rattle.record.specs.Formed.{most, WellFormed, entries, Malformed, places, malformedTest, verdict, formedOf}
+use Rattle.refusal.specs.declared.Refusal.{Refusal}
+use Rattle.record.specs.Formed.{WellFormed, entries, Malformed, places, malformedTest, verdict, formedOf, malformedAt}
 use Rattle.record.proofs.Told.{says-malformed, passed-iff}
 use Rattle.record.proofs.WellFormed.{well-formed-iff}
 use Rattle.index.specs.Labels.{drawn, kindNo, within, lowestOr}
@@ -25,53 +30,45 @@ use Rattle.index.proofs.Links.{room-so}
 use Rattle.index.proofs.Found.{made-chained}
 use Rattle.drawing.specs.declared.Checked.the-variants as checked
 use Rattle.drawing.specs.Faults as faults
-use faults.{Fault, malformed, behind30, faultAt, numberOf}
+use faults.{Fault, malformed, behind30, numberOf}
+use Rattle.drawing.specs.Steps.{testNo}
 use Rattle.drawing.specs.Check as check
 use check.{twice, wrongLabelTest, noSuchPartTest, withoutGuessTest, test, checkOf, countBelow, countOf as count-of, answer, checkedOf}
 use Rattle.drawing.proofs.Laws.{count-kinds}
 
 -- ---- a turn of the loop
 
-module _ (t : Fault → ℕ → Bool) (n f : ℕ) (h : f < 5) (i : ℕ) (e : i ≡ lowestOr n (t (faultAt f))) where
-  open-up : first (drop f behind30) t n ≡ tell (faultAt f) (lowest n (t (faultAt f))) (first (drop (f + 1) behind30) t n)
+-- fault k behind 30
+abbrev pub faultAt : ℕ → Fault
+faultAt k = getD behind30 k malformed
+
+module _ (t : Fault → ℕ → Bool) (n k : ℕ) (h : k < length behind30) (i : ℕ) (e : i ≡ lowestOr n (t (faultAt k))) where
+  open-up : first (drop k behind30) t n ≡ tell (faultAt k) (lowest n (t (faultAt k))) (first (drop (k + 1) behind30) t n)
   unfolding first
-  open-up = rw (add-one, drop-cons behind30 f malformed h) refl
+  open-up = rw (add-one, drop-cons behind30 k malformed h) refl
 
-  pub stops : i < n → first (drop f behind30) t n ≡ refused (faultAt f) i
-  stops g = open-up ∙ ap (λ (o : Option ℕ). tell (faultAt f) o (first (drop (f + 1) behind30) t n)) (is-some n (t (faultAt f)) i e g)
+  pub stops : i < n → first (drop k behind30) t n ≡ refused (faultAt k) i
+  stops g = open-up ∙ ap (λ (o : Option ℕ). tell (faultAt k) o (first (drop (k + 1) behind30) t n)) (is-some n (t (faultAt k)) i e g)
 
-  pub goes-on : n ≤ i → first (drop f behind30) t n ≡ first (drop (f + 1) behind30) t n
-  goes-on g = open-up ∙ ap (λ (o : Option ℕ). tell (faultAt f) o (first (drop (f + 1) behind30) t n)) (is-none n (t (faultAt f)) i e g)
+  pub goes-on : n ≤ i → first (drop k behind30) t n ≡ first (drop (k + 1) behind30) t n
+  goes-on g = open-up ∙ ap (λ (o : Option ℕ). tell (faultAt k) o (first (drop (k + 1) behind30) t n)) (is-none n (t (faultAt k)) i e g)
 
-pub ends : (t : Fault → ℕ → Bool) (n f : ℕ) → 5 ≤ f → first (drop f behind30) t n ≡ passed
+pub ends : (t : Fault → ℕ → Bool) (n k : ℕ) → length behind30 ≤ k → first (drop k behind30) t n ≡ passed
 unfolding first
-ends t n f h = rw (drop-of-length-le behind30 h) refl
+ends t n k h = rw (drop-of-length-le behind30 h) refl
 
--- ---- the tests and numbers by their places in the order
+-- ---- the faults by their numbers
 
-module _ (es : List Entry) (f i : ℕ) where
-  pub test-0 : f ≡ 0 → twice es 1 3 i ≡ test es (faultAt f) i
-  test-0 e = rw e refl
+-- the number of fault k
+pub number-at : (k : ℕ) → k < length behind30 → getD (map numberOf behind30) k 0 ≡ numberOf (faultAt k)
+number-at k h = getD-map numberOf behind30 k malformed 0 h
 
-  pub test-1 : f ≡ 1 → wrongLabelTest es i ≡ test es (faultAt f) i
-  test-1 e = rw e refl
+-- the test by a fault's number is the fault's
+by-numbers : (es : List Entry) → Each (λ f. testNo es (numberOf f) ≡ test es f) behind30
+by-numbers es = (refl, (refl, (refl, (refl, (refl, tt)))))
 
-  pub test-2 : f ≡ 2 → noSuchPartTest es i ≡ test es (faultAt f) i
-  test-2 e = rw e refl
-
-  pub test-3 : f ≡ 3 → twice es 24 25 i ≡ test es (faultAt f) i
-  test-3 e = rw e refl
-
-  pub test-4 : f ≡ 4 → withoutGuessTest es i ≡ test es (faultAt f) i
-  test-4 e = rw e refl
-
-pub number-is : (f : ℕ) → f < 5 → 31 + f ≡ numberOf (faultAt f)
-number-is zero h = refl
-number-is (suc zero) h = refl
-number-is (suc (suc zero)) h = refl
-number-is (suc (suc (suc zero))) h = refl
-number-is (suc (suc (suc (suc zero)))) h = refl
-number-is (suc (suc (suc (suc (suc f))))) h = absurd (omega (arith, h))
+pub test-at : (es : List Entry) (k : ℕ) → k < length behind30 → testNo es (getD (map numberOf behind30) k 0) ≡ test es (faultAt k)
+test-at es k h = rw (number-at k h) (each-at (λ (f : Fault). testNo es (numberOf f) ≡ test es f) behind30 malformed (by-numbers es) k h)
 
 -- ---- only 30 is told at the place after the last entry
 
@@ -106,20 +103,22 @@ module _ (es : List Entry) where
   shorter : first behind30 (test es) (suc (length es)) ≡ first behind30 (test es) (length es)
   unfolding first
   shorter =
-      rw (lowest-last (length es) (twice es 1 3) (twice-end 1 3 refl), lowest-last (length es) (wrongLabelTest es) wrong-label-end, lowest-last (length es) (noSuchPartTest es) no-such-part-end, lowest-last (length es) (twice es 24 25) (twice-end 24 25 refl), lowest-last (length es) (withoutGuessTest es) without-guess-end) refl
+      rw (lowest-last (length es) (twice es newPoint newArc) (twice-end newPoint newArc refl), lowest-last (length es) (wrongLabelTest es) wrong-label-end, lowest-last (length es) (noSuchPartTest es) no-such-part-end, lowest-last (length es) (twice es pairGuess numberGuess) (twice-end pairGuess numberGuess refl), lowest-last (length es) (withoutGuessTest es) without-guess-end) refl
 
 -- ---- 30
 
 -- what is told of a list that is not well formed is told by the check
-pub told-30 : (es : List Entry) (number place : ℕ) → formedOf es ≡ formed.Refused number place → checked.Refused number place ≡ checkedOf es
+pub told-30 : (es : List Entry) (r : Refusal) → formedOf es ≡ formed.Refused r → checked.Refused r ≡ checkedOf es
 unfolding checkedOf checkOf first formedOf
-told-30 es number place e = go (lowest (places es) (malformedTest es)) e
+told-30 es r e = go (lowest (places es) (malformedTest es)) e
   where
-    go : (o : Option ℕ) → verdict o ≡ formed.Refused number place → checked.Refused number place ≡ answer es (tell malformed o (first behind30 (test es) (places es)))
-    go (some j) q = cc
+    go : (o : Option ℕ) → verdict o ≡ formed.Refused r → checked.Refused r ≡ answer es (tell malformed o (first behind30 (test es) (places es)))
+    go (some j) q =
+        let m : malformedAt j ≡ r = cc in
+        rw (← m) refl
     go none q = absurd (never q)
       where
-        never : formed.WellFormed ≡ formed.Refused number place → ⊥
+        never : formed.WellFormed ≡ formed.Refused r → ⊥
         never r = let z : _≡_ {A = ℕ} 0 1 = cc in omega arith
 
 module _ (text bs : List ℕ) (w : WellFormed text bs) where
@@ -136,16 +135,17 @@ module _ (text bs : List ℕ) (w : WellFormed text bs) where
       ∙ ap (first behind30 (test es)) (drawn-length text bs)
 
   -- the chains of a kind from low to high, made in tables of the lengths that the check has
-  pub chained : {low high : ℕ} {hs ns hs′ ns′ : List ℕ} {answer : Bool} → Made (drawn text bs) low high hs ns answer hs′ ns′ → length hs ≡ chains → length ns ≡ most
+  pub chained : {low high : ℕ} {hs ns hs′ ns′ : List ℕ} {answer : Bool} → Made (drawn text bs) low high hs ns answer hs′ ns′ → length hs ≡ chains → length ns ≡ mostRecords
       → Chained (drawn text bs) low high hs′ ns′
   chained {hs = hs} {ns = ns} m eh en =
-      let n : length (drawn text bs) ≤ most = omega (arith, w .few, drawn-length text bs) in
+      let n : length (drawn text bs) ≤ mostRecords = omega (arith, w .few, drawn-length text bs) in
       made-chained m (m .told ∙ room-so (length (drawn text bs)) (length hs) (length ns) (omega arith) eh (omega arith))
 
   -- a fault behind 30 that is told
-  pub told-behind : (f i : ℕ) → f < 5 → checkOf (drawn text bs) ≡ refused (faultAt f) i → checked.Refused (31 + f) i ≡ checkedOf (entries text bs)
+  pub told-behind : (k i : ℕ) → k < length behind30 → checkOf (drawn text bs) ≡ refused (faultAt k) i
+      → checked.Refused (refusal (getD (map numberOf behind30) k 0) i) ≡ checkedOf (entries text bs)
   unfolding checkedOf
-  told-behind f i h e = rw (entries-drawn text bs w, e, number-is f h) refl
+  told-behind k i h e = rw (entries-drawn text bs w, e, number-at k h) refl
 
   count-is : (low high n : ℕ) → n ≡ countBelow (λ i. decodeAt bs i .kind) low high (countOf bs) → n ≡ count-of (drawn text bs) low high
   count-is low high n e =
@@ -156,10 +156,10 @@ module _ (text bs : List ℕ) (w : WellFormed text bs) where
 
   -- nothing that is told
   pub told-none : (p c a r : ℕ) → checkOf (drawn text bs) ≡ passed
-      → p ≡ countBelow (λ i. decodeAt bs i .kind) 1 1 (countOf bs)
-      → c ≡ countBelow (λ i. decodeAt bs i .kind) 2 2 (countOf bs)
-      → a ≡ countBelow (λ i. decodeAt bs i .kind) 3 3 (countOf bs)
-      → r ≡ countBelow (λ i. decodeAt bs i .kind) 4 23 (countOf bs)
+      → p ≡ countBelow (λ i. decodeAt bs i .kind) newPoint newPoint (countOf bs)
+      → c ≡ countBelow (λ i. decodeAt bs i .kind) newCircle newCircle (countOf bs)
+      → a ≡ countBelow (λ i. decodeAt bs i .kind) newArc newArc (countOf bs)
+      → r ≡ countBelow (λ i. decodeAt bs i .kind) firstRule lastRule (countOf bs)
       → checked.Passed p c a r ≡ checkedOf (entries text bs)
   unfolding checkedOf
-  told-none p c a r e ep ec ea er = rw (entries-drawn text bs w, e, count-is 1 1 p ep, count-is 2 2 c ec, count-is 3 3 a ea, count-is 4 23 r er) refl
+  told-none p c a r e ep ec ea er = rw (entries-drawn text bs w, e, count-is newPoint newPoint p ep, count-is newCircle newCircle c ec, count-is newArc newArc a ea, count-is firstRule lastRule r er) refl

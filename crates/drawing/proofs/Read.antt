@@ -11,7 +11,7 @@ use borrow.Author.Tests.{ne-eqb}
 use Rattle.ground.specs.Words.{bytes}
 use Rattle.refusal.specs.First.{anyBelow}
 use Rattle.refusal.proofs.Says.{refuted, says-once, says-and, says-iff, says-eq, says-le, says-any}
-use Rattle.record.specs.Kinds.{kindAt}
+use Rattle.record.specs.Kinds.{kindAt, newPoint, newArc, firstRule, lastRule, pairGuess, numberGuess}
 use Rattle.record.specs.Decode.{countOf, decodeAt}
 use Rattle.record.specs.Entry.{Label, Entry, entryAt, labelNo, entryOf}
 use Rattle.index.specs.Labels.{drawn, kindNo, nameNo, within, labelled}
@@ -71,19 +71,19 @@ module _ (text bs : List ℕ) (i kind : ℕ) (k : kind ≡ decodeAt bs i .kind) 
         rw (kind-is, e, label-is 0 name n, er)
         (found-below (drawn text bs) low high low high hs ns name c (omega arith) (omega arith) i (omega (arith, h, drawn-length text bs)))
 
-  pub wrong-label-no : within 4 23 kind ≡ false → false ≡ wrongLabelTest (drawn text bs) i
+  pub wrong-label-no : within firstRule lastRule kind ≡ false → false ≡ wrongLabelTest (drawn text bs) i
   unfolding wrongLabelTest
   wrong-label-no e = rw (kind-is, e) refl
 
-  pub wrong-label-yes : within 4 23 kind ≡ true → anyBelow (kindAt kind .labels) (wrongPlace (drawn text bs) i) ≡ wrongLabelTest (drawn text bs) i
+  pub wrong-label-yes : within firstRule lastRule kind ≡ true → anyBelow (kindAt kind .labels) (wrongPlace (drawn text bs) i) ≡ wrongLabelTest (drawn text bs) i
   unfolding wrongLabelTest
   wrong-label-yes e = rw (kind-is, e) refl
 
-  pub no-such-part-no : within 24 25 kind ≡ false → false ≡ noSuchPartTest (drawn text bs) i
+  pub no-such-part-no : within pairGuess numberGuess kind ≡ false → false ≡ noSuchPartTest (drawn text bs) i
   unfolding noSuchPartTest
   no-such-part-no e = rw (kind-is, e) refl
 
-  pub no-such-part-yes : within 24 25 kind ≡ true → wrongPlace (drawn text bs) i 0 ≡ noSuchPartTest (drawn text bs) i
+  pub no-such-part-yes : within pairGuess numberGuess kind ≡ true → wrongPlace (drawn text bs) i 0 ≡ noSuchPartTest (drawn text bs) i
   unfolding noSuchPartTest
   no-such-part-yes e = rw (kind-is, e) refl
 
@@ -144,13 +144,13 @@ module _ (es : List Entry) (kind : ℕ) (suffix l : Label) where
   guessed-is = any-same _ _ (length es) (λ j. rw (within-one kind (kindNo es j)) refl)
 
 module _ (text bs : List ℕ) (hs ns : List ℕ) (kind : ℕ) (suffix l : Label) (r : ℕ) where
-  pub named-found : (front : Label) → front ++ suffix ≡ l → Chained (drawn text bs) 1 3 hs ns → 1 ≤ kind → kind ≤ 3
+  pub named-found : (front : Label) → front ++ suffix ≡ l → Chained (drawn text bs) newPoint newArc hs ns → newPoint ≤ kind → kind ≤ newArc
       → r ≡ walkOf (drawn text bs) kind kind hs ns front → ltb r (countOf bs) ≡ named (drawn text bs) kind suffix l
-  named-found front e c a b er = found-any text bs 1 3 kind hs ns front r c a b er ∙ named-is (drawn text bs) kind suffix l front e
+  named-found front e c a b er = found-any text bs newPoint newArc kind hs ns front r c a b er ∙ named-is (drawn text bs) kind suffix l front e
 
-  pub guessed-found : Chained (drawn text bs) 24 25 hs ns → 24 ≤ kind → kind ≤ 25
+  pub guessed-found : Chained (drawn text bs) pairGuess numberGuess hs ns → pairGuess ≤ kind → kind ≤ numberGuess
       → r ≡ walkOf (drawn text bs) kind kind hs ns (l ++ suffix) → ltb r (countOf bs) ≡ guessed (drawn text bs) kind suffix l
-  guessed-found c a b er = found-any text bs 24 25 kind hs ns (l ++ suffix) r c a b er ∙ guessed-is (drawn text bs) kind suffix l
+  guessed-found c a b er = found-any text bs pairGuess numberGuess kind hs ns (l ++ suffix) r c a b er ∙ guessed-is (drawn text bs) kind suffix l
 
 -- ---- what a code needs
 

@@ -4,8 +4,9 @@ use mathlib.Core.List.{List, [], _∷_, _++_}
 use Prim.Native.Nat.{ℕ, zero, suc, _+_}
 use lib.Dec.{eqb}
 use lib.ListN.{length}
+use Rattle.refusal.specs.Refusal.{refusal}
 use Rattle.refusal.specs.First.{anyBelow, Answer, passed, refused, first}
-use Rattle.record.specs.Kinds.{kindAt}
+use Rattle.record.specs.Kinds.{kindAt, newPoint, newCircle, newArc, firstRule, lastRule, pairGuess, numberGuess}
 use Rattle.record.specs.Entry.{Label, Entry, entryAt, labelNo}
 use Rattle.record.specs.Formed.{places, malformedTest}
 use Rattle.index.specs.Labels.{kindNo, nameNo, same, within, labelled}
@@ -55,11 +56,11 @@ wrongPlace es i q = not (meets es (needAt (kindNo es i) q) (labelNo (entryAt es 
 
 -- 32
 unfoldable pub wrongLabelTest : List Entry → ℕ → Bool
-wrongLabelTest es i = within 4 23 (kindNo es i) && anyBelow (kindAt (kindNo es i) .labels) (wrongPlace es i)
+wrongLabelTest es i = within firstRule lastRule (kindNo es i) && anyBelow (kindAt (kindNo es i) .labels) (wrongPlace es i)
 
 -- 33
 unfoldable pub noSuchPartTest : List Entry → ℕ → Bool
-noSuchPartTest es i = within 24 25 (kindNo es i) && wrongPlace es i 0
+noSuchPartTest es i = within pairGuess numberGuess (kindNo es i) && wrongPlace es i 0
 
 -- entry i declares this shape, and a part has no guess
 abbrev pub lacks : List Entry → ℕ → Shape → Bool
@@ -72,10 +73,10 @@ withoutGuessTest es i = lacks es i point || (lacks es i circle || lacks es i arc
 -- a fault holds at entry i
 abbrev pub test : List Entry → Fault → ℕ → Bool
 test es malformed i = malformedTest es i
-test es declared-twice i = twice es 1 3 i
+test es declared-twice i = twice es newPoint newArc i
 test es wrong-label i = wrongLabelTest es i
 test es no-such-part i = noSuchPartTest es i
-test es guessed-twice i = twice es 24 25 i
+test es guessed-twice i = twice es pairGuess numberGuess i
 test es without-guess i = withoutGuessTest es i
 
 -- ---- the check
@@ -97,8 +98,8 @@ countOf es low high = countBelow (kindNo es) low high (length es)
 
 -- a drawing that passes has so many points, circles, arcs and rows; any other is refused with docs/FORMAT.md's number, at a place
 abbrev pub answer : List Entry → Answer Fault → Checked
-answer es passed = checked.Passed (countOf es 1 1) (countOf es 2 2) (countOf es 3 3) (countOf es 4 23)
-answer es (refused f i) = checked.Refused (numberOf f) i
+answer es passed = checked.Passed (countOf es newPoint newPoint) (countOf es newCircle newCircle) (countOf es newArc newArc) (countOf es firstRule lastRule)
+answer es (refused f i) = checked.Refused (refusal (numberOf f) i)
 
 -- what is told of a drawing
 unfoldable pub checkedOf : List Entry → Checked

@@ -2,28 +2,14 @@
 use mathlib.Core.Path.{_≡_}
 use mathlib.Core.Logic.{_⊎_}
 use mathlib.Core.List.{List, [], _∷_, _++_}
-use Prim.Native.Nat.{ℕ, _≤_}
-use lib.ListN.{length, getD}
+use Prim.Native.Nat.{ℕ}
+use lib.ListN.{length}
 use Rattle.refusal.specs.First.{SomeBelow}
-use Rattle.record.specs.Kinds.{kindAt}
+use Rattle.record.specs.Kinds.{kindAt, Declaration, Rule, Guess}
 use Rattle.record.specs.Entry.{Label, Entry, entryAt, labelNo}
 use Rattle.record.specs.Formed.{Malformed}
 use Rattle.index.specs.Labels.{kindNo, nameNo}
 use Rattle.drawing.specs.Needs.{Shape, declaring, Part, parts, Need, needAt}
-
--- ---- entries by their kinds
-
--- kinds 1 to 3
-abbrev pub Declaration : ℕ → Type 0
-Declaration kind = (1 ≤ kind) × (kind ≤ 3)
-
--- kinds 4 to 23
-abbrev pub Rule : ℕ → Type 0
-Rule kind = (4 ≤ kind) × (kind ≤ 23)
-
--- kinds 24 and 25
-abbrev pub Guess : ℕ → Type 0
-Guess kind = (24 ≤ kind) × (kind ≤ 25)
 
 -- ---- labels of the drawing
 
@@ -77,10 +63,6 @@ pub data Fault : Type 0 where
 -- the faults behind 30
 abbrev pub behind30 : List Fault
 behind30 = declared-twice ∷ wrong-label ∷ no-such-part ∷ guessed-twice ∷ without-guess ∷ []
-
--- fault number f behind 30, counted from 0
-abbrev pub faultAt : ℕ → Fault
-faultAt f = getD behind30 f malformed
 
 -- the order of the check
 abbrev pub order : List Fault

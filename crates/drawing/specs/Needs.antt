@@ -5,7 +5,7 @@ use Prim.Native.Nat.{ℕ}
 use lib.Dec.{eqb}
 use lib.ListN.{getD}
 use Rattle.ground.specs.Words.{bytes}
-use Rattle.record.specs.Kinds.{kindAt}
+use Rattle.record.specs.Kinds.{kindAt, newPoint, newCircle, newArc, pairGuess, numberGuess}
 use Rattle.record.specs.Entry.{Label}
 
 -- ---- shapes and their parts
@@ -15,16 +15,9 @@ pub data Shape : Type 0 where
 
 -- the kind that declares a shape
 abbrev pub declaring : Shape → ℕ
-declaring point = 1
-declaring circle = 2
-declaring arc = 3
-
--- the kinds of a point guess and of a scalar guess
-abbrev pub pairGuess : ℕ
-pairGuess = 24
-
-abbrev pub numberGuess : ℕ
-numberGuess = 25
+declaring point = newPoint
+declaring circle = newCircle
+declaring arc = newArc
 
 -- a part of a shape: what stands behind the shape's label, and the kind of the guess that is due
 pub record Part : Type 0 where

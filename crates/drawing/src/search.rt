@@ -2,14 +2,12 @@
 // guesses.
 ghost use mathlib.Core.Path.{_≡_};
 ghost use Prim.Native.Nat.{_≤_, _<_};
+ghost use Rattle.record.specs.Kinds.{newPoint, newArc, pairGuess, numberGuess};
 ghost use Rattle.record.specs.Decode.{countOf as records-in};
 ghost use Rattle.index.specs.Labels.{drawn};
 ghost use Rattle.index.specs.Chains.{Chained};
 ghost use Rattle.drawing.specs.Needs.{needOf};
 ghost use Rattle.drawing.specs.Check.{twice as is-twice, named as is-named, meets as is-met, guessed as is-guessed};
-use crate::kinds::NEW_ARC;
-use crate::kinds::NEW_CIRCLE;
-use crate::kinds::NEW_POINT;
 use index::find;
 use index::find_two;
 use index::labels::kind_at;
@@ -19,6 +17,9 @@ use record::SIZE;
 use record::kinds::ARC;
 use record::kinds::ASSIGNED;
 use record::kinds::CIRCLE;
+use record::kinds::NEW_ARC;
+use record::kinds::NEW_CIRCLE;
+use record::kinds::NEW_POINT;
 use record::kinds::NUMBER_PART;
 use record::kinds::PAIR_PART;
 use record::kinds::POINT;
@@ -55,7 +56,7 @@ fn named(
     suffix: &[u8],
     label: &[u8],
 ) -> bool
-    requires { ⌜ Chained (drawn (now text) (now records)) 1 3 (now heads) (now nexts) × (1 ≤ kind) × (kind ≤ 3) ⌝ }
+    requires { ⌜ Chained (drawn (now text) (now records)) newPoint newArc (now heads) (now nexts) × (newPoint ≤ kind) × (kind ≤ newArc) ⌝ }
     ensures { λ r. ⌜ r ≡ is-named (drawn (now (text .entry)) (now (records .entry))) kind (now (suffix .entry)) (now (label .entry)) ⌝ }
 {
     if label.len() < suffix.len() {
@@ -78,7 +79,7 @@ pub(crate) fn guessed(
     suffix: &[u8],
     label: &[u8],
 ) -> bool
-    requires { ⌜ Chained (drawn (now text) (now records)) 24 25 (now heads) (now nexts) × (24 ≤ kind) × (kind ≤ 25) ⌝ }
+    requires { ⌜ Chained (drawn (now text) (now records)) pairGuess numberGuess (now heads) (now nexts) × (pairGuess ≤ kind) × (kind ≤ numberGuess) ⌝ }
     ensures { λ r. ⌜ r ≡ is-guessed (drawn (now (text .entry)) (now (records .entry))) kind (now (suffix .entry)) (now (label .entry)) ⌝ }
 {
     find_two(text, records, kind, kind, heads, nexts, label, suffix) < records.len() / SIZE
@@ -93,7 +94,7 @@ pub(crate) fn meets(
     code: u8,
     label: &[u8],
 ) -> bool
-    requires { ⌜ Chained (drawn (now text) (now records)) 1 3 (now heads) (now nexts) ⌝ }
+    requires { ⌜ Chained (drawn (now text) (now records)) newPoint newArc (now heads) (now nexts) ⌝ }
     ensures { λ r. ⌜ r ≡ is-met (drawn (now (text .entry)) (now (records .entry))) (needOf code) (now (label .entry)) ⌝ }
 {
     match code {

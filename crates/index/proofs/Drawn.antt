@@ -1,19 +1,21 @@
 -- The entries of records, place by place, by what the code reads; and where 30 is told nowhere they are the entries of the list. Assumes nothing.
-use mathlib.Core.Path.{_≡_, refl, sym, ap, _∙_}
-use mathlib.Core.Bool.{Bool, true, false, _&&_, _||_, cond, true≢false}
+use mathlib.Core.Path.{_≡_, refl, sym, ap, _∙_, subst}
+use mathlib.Core.Bool.{Bool, true, false, _&&_, cond}
 use mathlib.Core.List.{List, []}
-use Prim.Native.Nat.{ℕ, zero, suc, _+_, _*_, _≤_, _<_}
+use Prim.Native.Nat.{ℕ, _+_, _*_, _≤_, _<_}
 use native.Mathlib.Omega.{arith}
 use native.Mathlib.Decide.{decLt}
 use lib.ListN.{length, getD, drop, List·getD-eq-default}
 use lib.Seq.{getD-take, getD-drop, ext-getD}
-use lib.Dec.{ltb, eqb}
-use borrow.Author.Tests.{lt-ltb, le-ltb, le-leb, lt-leb, ltb-true, ltb-false}
+use lib.Dec.{ltb}
+use borrow.Author.Tests.{lt-ltb, le-ltb, ltb-true, ltb-false}
 use Rattle.ground.proofs.Lists.{and-first, and-second}
+use Rattle.bytes.specs.Little.{byte, u16}
+use Rattle.record.specs.declared.View.{View}
 use Rattle.record.specs.declared.Record.{Record}
-use Rattle.record.specs.Record.{recordBytes, firstGuess}
-use Rattle.record.specs.Decode.{byte, u16, decode, countOf, recordOf, decodeAt}
-use Rattle.record.specs.Entry.{Label, Entry, noEntry, entryAt, labelNo, startOf, lenOf, part, named, upTo, entryOf}
+use Rattle.record.specs.Record.{recordBytes, labelPlaces}
+use Rattle.record.specs.Decode.{decode, countOf, recordOf, decodeAt, viewAt, placeIn, hasPlace}
+use Rattle.record.specs.Entry.{Label, Entry, noEntry, entryAt, labelNo, part, named, upTo, entryOf, noView, viewOf}
 use Rattle.record.specs.Formed.{WellFormed, entries}
 use Rattle.record.proofs.UpTo.{length-up-to, getD-up-to}
 use Rattle.record.proofs.Entries.{entry-good, entry-at, whole-length}
@@ -25,11 +27,14 @@ module _ (bs : List ℕ) (i : ℕ) where
   pub byte-is : (k : ℕ) → k < recordBytes → byte (recordOf bs i) k ≡ getD bs (i * recordBytes + k) 0
   byte-is k h = rw (getD-take recordBytes (drop (i * recordBytes) bs) k 0 h, getD-drop (i * recordBytes) bs k 0) refl
 
-  pub u16-is : (k : ℕ) → k + 1 < recordBytes → u16 (recordOf bs i) k ≡ u16 bs (i * recordBytes + k)
-  u16-is k h = rw (byte-is k (omega arith), byte-is (k + 1) h, add-assoc)
+  u16-is : (k m : ℕ) → k + 1 < recordBytes → m ≡ i * recordBytes + k → u16 (recordOf bs i) k ≡ u16 bs m
+  u16-is k m h e = rw (byte-is k (omega arith), byte-is (k + 1) h, e, add-assoc)
     where
       add-assoc : i * recordBytes + (k + 1) ≡ i * recordBytes + k + 1
       add-assoc = omega arith
+
+  view-is : (k m : ℕ) → k + 3 < recordBytes → m ≡ i * recordBytes + k → viewAt (recordOf bs i) k ≡ viewAt bs m
+  view-is k m h e j = record { start = u16-is k m (omega arith) e j; len = u16-is (k + 2) (m + 2) (omega arith) (omega arith) j }
 
   -- a record that is there, and one that is not
   pub decode-here : i < countOf bs → decodeAt bs i ≡ decode (recordOf bs i)
@@ -48,10 +53,10 @@ module _ (bs : List ℕ) (i : ℕ) where
 
 -- a record's form has a label place q, and the record a label there
 abbrev pub placed : ℕ → ℕ → ℕ → Bool
-placed kind count q = ltb q count && (ltb q 4 && (eqb q 0 || ltb kind firstGuess))
+placed kind count q = ltb q count && (ltb q labelPlaces && hasPlace kind q)
 
 module _ (text : List ℕ) (r : Record) (q : ℕ) where
-  label-here : q < r .count → part text (startOf r q) (lenOf r q) ≡ labelNo (entryOf text r) q
+  label-here : q < r .count → named text r q ≡ labelNo (entryOf text r) q
   unfolding entryOf
   label-here h = sym (getD-up-to (r .count) (named text r) q [] h)
 
@@ -59,26 +64,22 @@ module _ (text : List ℕ) (r : Record) (q : ℕ) where
   unfolding entryOf
   label-past h = sym (List·getD-eq-default (upTo (r .count) (named text r)) [] (rw (length-up-to (r .count) (named text r)) h))
 
--- where a record's form has label place q, its start and its length stand four bytes further for each place
-places : (b : List ℕ) (q : ℕ) → q < 4 → (eqb q 0 || ltb (byte b 1) firstGuess) ≡ true → (startOf (decode b) q ≡ u16 b (4 + q * 4)) × (lenOf (decode b) q ≡ u16 b (4 + q * 4 + 2))
-unfolding decode
-places b zero h e = (refl, refl)
-places b (suc zero) h e = let g = lt-leb firstGuess (byte b 1) (ltb-true _ _ e) in (rw g refl, rw g refl)
-places b (suc (suc zero)) h e = let g = lt-leb firstGuess (byte b 1) (ltb-true _ _ e) in (rw g refl, rw g refl)
-places b (suc (suc (suc zero))) h e = let g = lt-leb firstGuess (byte b 1) (ltb-true _ _ e) in (rw g refl, rw g refl)
-places b (suc (suc (suc (suc q)))) h e = absurd (omega (arith, h))
+-- a label place by its bytes; elsewhere there is none
+module _ (b : List ℕ) (q : ℕ) where
+  place-is : q < labelPlaces → viewOf (decode b) q ≡ placeIn b q
+  unfolding decode
+  place-is h = getD-up-to labelPlaces (placeIn b) q noView h
 
--- elsewhere there is none
-no-place : (b : List ℕ) (q : ℕ) → (ltb q 4 && (eqb q 0 || ltb (byte b 1) firstGuess)) ≡ false → (startOf (decode b) q ≡ 0) × (lenOf (decode b) q ≡ 0)
-unfolding decode
-no-place b zero e = absurd (true≢false e)
-no-place b (suc zero) e = let g = le-leb firstGuess (byte b 1) (ltb-false _ _ e) in (rw g refl, rw g refl)
-no-place b (suc (suc zero)) e = let g = le-leb firstGuess (byte b 1) (ltb-false _ _ e) in (rw g refl, rw g refl)
-no-place b (suc (suc (suc zero))) e = let g = le-leb firstGuess (byte b 1) (ltb-false _ _ e) in (rw g refl, rw g refl)
-no-place b (suc (suc (suc (suc q)))) e = (refl, refl)
+  no-place : (ltb q labelPlaces && hasPlace (byte b 1) q) ≡ false → viewOf (decode b) q ≡ noView
+  unfolding decode
+  no-place e = go (ltb q labelPlaces) refl e
+    where
+      go : (t : Bool) → ltb q labelPlaces ≡ t → (t && hasPlace (byte b 1) q) ≡ false → viewOf (decode b) q ≡ noView
+      go true f g = place-is (ltb-true q labelPlaces f) ∙ rw g refl
+      go false f g = List·getD-eq-default (decode b .labels) noView (ltb-false q labelPlaces f)
 
-pub placed-few : (kind count q : ℕ) → placed kind count q ≡ true → q < 4
-placed-few kind count q e = ltb-true q 4 (and-first _ _ (and-second (ltb q count) (ltb q 4 && (eqb q 0 || ltb kind firstGuess)) e))
+pub placed-few : (kind count q : ℕ) → placed kind count q ≡ true → q < labelPlaces
+placed-few kind count q e = ltb-true q labelPlaces (and-first _ _ (and-second (ltb q count) (ltb q labelPlaces && hasPlace kind q) e))
 
 -- label q of a record over a text: its bytes, and where it starts
 pub record LabelIs (text : List ℕ) (r : Record) (q : ℕ) (label : Label) (start : ℕ) : Type 0 where
@@ -86,57 +87,52 @@ pub record LabelIs (text : List ℕ) (r : Record) (q : ℕ) (label : Label) (sta
   pub starts : start ≡ labelStart text r q
 
 -- the text's start is its own
-pub start-zero : (text : List ℕ) → startIn text 0 ≡ 0
+start-zero : (text : List ℕ) → startIn text 0 ≡ 0
 start-zero text = go (ltb 0 (length text))
   where
     go : (t : Bool) → _≡_ {A = ℕ} (cond t 0 0) 0
     go true = refl
     go false = refl
 
+-- the part of a text that a view names, and where it starts
+abbrev Shown : List ℕ → Record → ℕ → View → Type 0
+Shown text r q v = LabelIs text r q (part text (v .start) (v .len)) (startIn text (v .start))
+
 -- a label by the bytes of its record
 module _ (text b : List ℕ) (q : ℕ) where
-  read-here : placed (byte b 1) (byte b 3) q ≡ true
-      → LabelIs text (decode b) q (part text (u16 b (4 + q * 4)) (u16 b (4 + q * 4 + 2))) (startIn text (u16 b (4 + q * 4)))
+  shown : q < byte b 3 → (v : View) → viewOf (decode b) q ≡ v → Shown text (decode b) q v
   unfolding decode
-  read-here e =
-      let some = and-first (ltb q (byte b 3)) (ltb q 4 && (eqb q 0 || ltb (byte b 1) firstGuess)) e in
-      let rest = and-second (ltb q (byte b 3)) (ltb q 4 && (eqb q 0 || ltb (byte b 1) firstGuess)) e in
-      let p = places b q (placed-few (byte b 1) (byte b 3) q e) (and-second (ltb q 4) (eqb q 0 || ltb (byte b 1) firstGuess) rest) in
-      record {
-        is = rw (← p .0, ← p .1) (label-here text (decode b) q (ltb-true q (byte b 3) some));
-        starts = rw (some, ← p .0) refl;
-      }
+  shown h v e = rw (← e) (record { is = label-here text (decode b) q h; starts = rw (lt-ltb q (byte b 3) h) refl })
 
-  read-none : placed (byte b 1) (byte b 3) q ≡ false → LabelIs text (decode b) q [] 0
+  read-here : placed (byte b 1) (byte b 3) q ≡ true → Shown text (decode b) q (viewAt b (4 + q * 4))
+  read-here e =
+      let some = and-first (ltb q (byte b 3)) (ltb q labelPlaces && hasPlace (byte b 1) q) e in
+      let rest = and-second (ltb q (byte b 3)) (ltb q labelPlaces && hasPlace (byte b 1) q) e in
+      shown (ltb-true q (byte b 3) some) (viewAt b (4 + q * 4)) (place-is b q (placed-few (byte b 1) (byte b 3) q e) ∙ rw (and-second (ltb q labelPlaces) (hasPlace (byte b 1) q) rest) refl)
+
+  read-none : placed (byte b 1) (byte b 3) q ≡ false → Shown text (decode b) q noView
   unfolding decode
   read-none e = go (ltb q (byte b 3)) refl e
     where
-      go : (t : Bool) → ltb q (byte b 3) ≡ t → (t && (ltb q 4 && (eqb q 0 || ltb (byte b 1) firstGuess))) ≡ false → LabelIs text (decode b) q [] 0
-      go true f g = record { is = empty ∙ label-here text (decode b) q (ltb-true q (byte b 3) f); starts = rw (f, no-place b q g .0) (sym (start-zero text)) }
-        where
-          empty : [] ≡ part text (startOf (decode b) q) (lenOf (decode b) q)
-          empty = rw (no-place b q g .1) refl
-      go false f g = record { is = label-past text (decode b) q (ltb-false q (byte b 3) f); starts = rw f refl }
+      go : (t : Bool) → ltb q (byte b 3) ≡ t → (t && (ltb q labelPlaces && hasPlace (byte b 1) q)) ≡ false → Shown text (decode b) q noView
+      go true f g = shown (ltb-true q (byte b 3) f) noView (no-place b q g)
+      go false f g = record { is = label-past text (decode b) q (ltb-false q (byte b 3) f); starts = rw f (start-zero text) }
 
 -- a label by the bytes of the list
 module _ (text bs : List ℕ) (i q : ℕ) where
-  pub label-none : countOf bs ≤ i → LabelIs text (decodeAt bs i) q [] 0
+  pub label-none : countOf bs ≤ i → Shown text (decodeAt bs i) q noView
   unfolding decodeAt entryOf
-  label-none h = rw (le-ltb i (countOf bs) h) (record { is = refl; starts = rw (le-ltb q 0 (omega arith)) refl })
+  label-none h = rw (le-ltb i (countOf bs) h) (record { is = refl; starts = rw (le-ltb q 0 (omega arith)) (start-zero text) })
 
   module _ (h : i < countOf bs) where
-    pub label-read : placed (getD bs (i * recordBytes + 1) 0) (getD bs (i * recordBytes + 3) 0) q ≡ true
-        → LabelIs text (decodeAt bs i) q (part text (u16 bs (i * recordBytes + 4 + q * 4)) (u16 bs (i * recordBytes + 4 + q * 4 + 2))) (startIn text (u16 bs (i * recordBytes + 4 + q * 4)))
+    pub label-read : placed (getD bs (i * recordBytes + 1) 0) (getD bs (i * recordBytes + 3) 0) q ≡ true → Shown text (decodeAt bs i) q (viewAt bs (i * recordBytes + 4 + q * 4))
     label-read e =
-        let few : q < 4 = placed-few (getD bs (i * recordBytes + 1) 0) (getD bs (i * recordBytes + 3) 0) q e in
-        let start : u16 (recordOf bs i) (4 + q * 4) ≡ u16 bs (i * recordBytes + 4 + q * 4) = u16-is bs i (4 + q * 4) (omega arith) ∙ at (omega arith) in
-        let len : u16 (recordOf bs i) (4 + q * 4 + 2) ≡ u16 bs (i * recordBytes + 4 + q * 4 + 2) = u16-is bs i (4 + q * 4 + 2) (omega arith) ∙ at (omega arith) in
-        rw (decode-here bs i h, ← start, ← len) (read-here text (recordOf bs i) q (rw (byte-is bs i 1 (omega arith), byte-is bs i 3 (omega arith)) e))
-      where
-        at : {k m : ℕ} → k ≡ m → u16 bs k ≡ u16 bs m
-        at z = ap (u16 bs) z
+        let few : q < labelPlaces = placed-few (getD bs (i * recordBytes + 1) 0) (getD bs (i * recordBytes + 3) 0) q e in
+        rw (decode-here bs i h)
+        (subst (Shown text (decode (recordOf bs i)) q) (view-is bs i (4 + q * 4) (i * recordBytes + 4 + q * 4) (omega arith) (omega arith))
+        (read-here text (recordOf bs i) q (rw (byte-is bs i 1 (omega arith), byte-is bs i 3 (omega arith)) e)))
 
-    pub label-unread : placed (getD bs (i * recordBytes + 1) 0) (getD bs (i * recordBytes + 3) 0) q ≡ false → LabelIs text (decodeAt bs i) q [] 0
+    pub label-unread : placed (getD bs (i * recordBytes + 1) 0) (getD bs (i * recordBytes + 3) 0) q ≡ false → Shown text (decodeAt bs i) q noView
     label-unread e = rw (decode-here bs i h) (read-none text (recordOf bs i) q (rw (byte-is bs i 1 (omega arith), byte-is bs i 3 (omega arith)) e))
 
 -- ---- an entry

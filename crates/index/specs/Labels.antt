@@ -8,7 +8,7 @@ use lib.ListN.{length}
 use Rattle.refusal.specs.First.{lowest}
 use Rattle.record.specs.declared.Record.{Record}
 use Rattle.record.specs.Decode.{countOf, decodeAt}
-use Rattle.record.specs.Entry.{Label, Entry, entryAt, labelNo, upTo, startOf, entryOf}
+use Rattle.record.specs.Entry.{Label, Entry, entryAt, labelNo, upTo, viewOf, entryOf}
 
 -- ---- entries
 
@@ -32,7 +32,7 @@ startIn text start = cond (ltb start (length text)) start 0
 
 -- where label q of a record starts in a text; an empty one, where there is none, starts where the text does
 abbrev pub labelStart : List ℕ → Record → ℕ → ℕ
-labelStart text r q = cond (ltb q (r .count)) (startIn text (startOf r q)) 0
+labelStart text r q = cond (ltb q (r .count)) (startIn text (viewOf r q .start)) 0
 
 -- two labels are the same
 abbrev pub same : Label → Label → Bool

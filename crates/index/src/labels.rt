@@ -1,24 +1,15 @@
 // The kinds and labels of records, without a look at their form.
 ghost use mathlib.Core.Path.{_≡_};
 ghost use mathlib.Core.List.{_++_};
-ghost use Prim.Native.Nat.{_+_, _<_};
-ghost use lib.ListN.{length};
-ghost use Rattle.record.specs.Decode.{u16, Wide, countOf as records-in, decodeAt};
+ghost use Prim.Native.Nat.{_<_};
+ghost use Rattle.record.specs.Decode.{countOf as records-in, decodeAt};
 ghost use denote.Ref.{ptr};
-ghost use Rattle.record.specs.Entry.{labelNo, part as part-of, HandsBack, entryOf};
+ghost use Rattle.record.specs.Entry.{labelNo, part as part-of, LendsPart, entryOf};
 ghost use Rattle.index.specs.Labels.{startIn, labelStart, same as same-label};
+use bytes::u16_of;
+use record::PLACES;
 use record::SIZE;
-
-// Kinds from this on are guesses, which have one label.
-const GUESS: u8 = 24;
-
-// The number of two bytes, the lower first.
-fn u16_at(b: &[u8], k: usize) -> usize
-    requires { ⌜ k + 1 < length (now b) ⌝ }
-    ensures { λ r. ⌜ Wide (u16 (now (b .entry)) k) r ⌝ }
-{
-    (b[k] as usize) + (b[k + 1] as usize) * 256
-}
+use record::kinds::PAIR_GUESS;
 
 // The kind of a record that is there.
 pub(crate) fn kind_of(records: &[u8], i: usize) -> u8
@@ -40,7 +31,7 @@ pub fn kind_at(records: &[u8], i: usize) -> u8
 
 // A part of the text, cut off where the text ends.
 fn part<'a>(text: &'a [u8], start: usize, len: usize) -> &'a [u8]
-    ensures { λ r. ⌜ HandsBack (part-of (now (text .entry)) start len) (startIn (now (text .entry)) start) (ptr (text .entry)) (now r) (ptr r) ⌝ }
+    ensures { λ r. ⌜ LendsPart (part-of (now (text .entry)) start len) (startIn (now (text .entry)) start) (ptr (text .entry)) (now r) (ptr r) ⌝ }
 {
     if start < text.len() {
         if len <= text.len() - start {
@@ -57,14 +48,17 @@ fn part<'a>(text: &'a [u8], start: usize, len: usize) -> &'a [u8]
 // Label q of a record that is there, and an empty one where it has none.
 pub(crate) fn label_of<'a>(text: &'a [u8], records: &[u8], i: usize, q: usize) -> &'a [u8]
     requires { ⌜ i < records-in (now records) ⌝ }
-    ensures { λ r. ⌜ HandsBack (labelNo (entryOf (now (text .entry)) (decodeAt (now (records .entry)) i)) q) (labelStart (now (text .entry)) (decodeAt (now (records .entry)) i) q) (ptr (text .entry)) (now r) (ptr r) ⌝ }
+    ensures { λ r. ⌜ LendsPart (labelNo (entryOf (now (text .entry)) (decodeAt (now (records .entry)) i)) q) (labelStart (now (text .entry)) (decodeAt (now (records .entry)) i) q) (ptr (text .entry)) (now r) (ptr r) ⌝ }
 {
     let at = i * SIZE;
     let kind = records[at + 1];
     let count = records[at + 3] as usize;
-    if (q < count) & ((q < 4) & ((q == 0) | (kind < GUESS))) {
+    if (q < count) & ((q < PLACES) & ((q == 0) | !(PAIR_GUESS <= kind))) {
         let k = at + 4 + q * 4;
-        part(text, u16_at(records, k), u16_at(records, k + 2))
+        let m = k + 2;
+        let start = u16_of(records[k], records[k + 1]) as usize;
+        let len = u16_of(records[m], records[m + 1]) as usize;
+        part(text, start, len)
     } else {
         part(text, 0, 0)
     }
@@ -72,7 +66,7 @@ pub(crate) fn label_of<'a>(text: &'a [u8], records: &[u8], i: usize, q: usize) -
 
 // Label q of record i, and an empty one where there is none.
 pub fn label_at<'a>(text: &'a [u8], records: &[u8], i: usize, q: usize) -> &'a [u8]
-    ensures { λ r. ⌜ HandsBack (labelNo (entryOf (now (text .entry)) (decodeAt (now (records .entry)) i)) q) (labelStart (now (text .entry)) (decodeAt (now (records .entry)) i) q) (ptr (text .entry)) (now r) (ptr r) ⌝ }
+    ensures { λ r. ⌜ LendsPart (labelNo (entryOf (now (text .entry)) (decodeAt (now (records .entry)) i)) q) (labelStart (now (text .entry)) (decodeAt (now (records .entry)) i) q) (ptr (text .entry)) (now r) (ptr r) ⌝ }
 {
     if records.len() / SIZE <= i {
         return part(text, 0, 0);

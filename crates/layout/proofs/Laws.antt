@@ -19,7 +19,8 @@ use Rattle.layout.specs.declared.Stepped.the-variants as S
 use Rattle.layout.specs.declared.Pushed.{Pushed}
 use Rattle.layout.specs.declared.Pushed.the-variants as P
 use Rattle.refusal.specs.declared.Refusal.{Refusal}
-use Rattle.refusal.specs.First.{lowest, first, once, passed, refusalBy, answered}
+use Rattle.refusal.specs.First.{lowest, first, once, passed, answered}
+use Rattle.refusal.specs.Refusal.{refusal}
 use Rattle.refusal.proofs.Once.{clear-passes, passed-clear, answered-passed, answered-good, answered-pair}
 use Rattle.layout.specs.Push.{State, state, over, onward, toldIn, filled, pushed, Fills, nextOf, stageAfter, doneOf}
 use Rattle.layout.specs.Refusals.{Reason, reasonNumber, cannot-be, wrong-stage, full, short, few-ids, no-shape, pushOrder, doneOrder, lookOrder, Rising, impossible, barsPush, barsDone, barsLook, pushTold, doneTold, lookTold}
@@ -80,7 +81,7 @@ count-small Arc l s = s .arcs
 
 -- the refusal that tells a reason
 abbrev pub told : Reason → Refusal
-told r = refusalBy (reasonNumber r) 0
+told r = refusal (reasonNumber r) 0
 
 module _ (k : ShapeKind) (l : Layout) (next ids values : ℕ) where
   abbrev PushTold : Place → Type 0

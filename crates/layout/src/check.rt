@@ -13,7 +13,8 @@ ghost use mathlib.Core.Path.{_≡_};
 ghost use Prim.Native.Nat.{_≤_};
 ghost use Rattle.layout.specs.Slots.{stageNumber, stageDue, sizeOf, shapesIn, mostShapes, mostSize, mostSlots, slotCount, slotOf, withOne, Small};
 ghost use Rattle.layout.specs.Refusals.{impossible, reasonNumber, pushTold, lookTold};
-ghost use Rattle.refusal.specs.First.{refusalBy, answered};
+ghost use Rattle.refusal.specs.First.{answered};
+ghost use Rattle.refusal.specs.Refusal.{refusal};
 
 // The numbers of the refusals.
 pub(crate) const CANNOT_BE: u8 = 20;
@@ -30,7 +31,7 @@ const NO_SHAPE: u8 = 25;
 
 // A refusal with a number, at place 0.
 pub(crate) fn refused(number: u8) -> Refusal
-    ensures { λ r. ⌜ r ≡ refusalBy number 0 ⌝ }
+    ensures { λ r. ⌜ r ≡ refusal number 0 ⌝ }
 {
     Refusal { number, place: 0 }
 }

@@ -11,9 +11,10 @@ use Rattle.reader.specs.declared.Reading.the-variants.{Good, Refused}
 use Rattle.layout.specs.declared.Stage.the-variants.{Done}
 use Rattle.drawing.specs.declared.Checked.the-variants as C
 use Rattle.lowering.specs.declared.Lowered.the-variants as L
-use Rattle.lowering.specs.Rows.{Row, encodeRow}
-use Rattle.lines.specs.Lines.{joined, quoted, spaced, firstLine, lineOf}
-use Rattle.lines.specs.Drawn.{checkedLine, loweredLine, slotLine, decodeRow, rowOf, rowLine}
+use Rattle.row.specs.Row.{meant, heldIn, bytesOf, Row, encodeRow, decodeRow, rowOf}
+use Rattle.rail.specs.Words.{joined, quoted, spaced}
+use Rattle.lines.specs.Lines.{firstLine, lineOf}
+use Rattle.lines.specs.Drawn.{checkedLine, loweredLine, slotLine, rowLine}
 
 -- quoted labels
 abbrev pub texts : List String → List (List ℕ)
@@ -95,5 +96,5 @@ pub lowering :
     ∷ "row 15 4 5 6 4000000000000000"
     ∷ "row 0"
     ∷ [])
-unfolding checkedLine loweredLine slotLine rowLine decodeRow encodeRow rowOf lineOf spaced decimalOf hexOf lastDigits widthUpTo toBits ofBits
+unfolding checkedLine loweredLine slotLine rowLine meant heldIn bytesOf encodeRow rowOf lineOf spaced decimalOf hexOf lastDigits widthUpTo toBits ofBits
 lowering = refl

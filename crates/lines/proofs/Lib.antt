@@ -1,4 +1,3 @@
-pub mod Added
 pub mod Examples
 pub mod Only
 pub mod RowBack

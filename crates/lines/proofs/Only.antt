@@ -1,13 +1,8 @@
 -- The promise of each public function, as its source states it, determines the answer and what the buffer holds at last: each is an
 -- equation with what the entry values give. Assumes nothing.
-use mathlib.Core.Path.{_≡_}
-use mathlib.Core.Bool.{Bool}
-use mathlib.Core.List.{List}
-use Prim.Native.Nat.{ℕ}
 use borrow.Fn.Kinds.{endedOf}
-use Rattle.ground.proofs.Determined.{Settled, by-equation}
-use Rattle.lines.specs.declared.Place.{Place}
-use Rattle.lines.specs.Rail.{Prints}
+use Rattle.ground.proofs.Determined.{Settled}
+use Rattle.rail.proofs.Only.{same-answer, same-buffer}
 use Rattle.lines.proofs.first_line.Kinds as first-line-kinds
 use Rattle.lines.proofs.first_line.Reads as first-line
 use Rattle.lines.proofs.record_line.Kinds as record-line-kinds
@@ -20,14 +15,6 @@ use Rattle.lines.proofs.slot_line.Kinds as slot-line-kinds
 use Rattle.lines.proofs.slot_line.Reads as slot-line
 use Rattle.lines.proofs.row_line.Kinds as row-line-kinds
 use Rattle.lines.proofs.row_line.Reads as row-line
-
--- two answers, and two buffers
-module _ {write : Bool} {d line v w : List ℕ} {at x y : Place} (p : Prints write d at line x v) (q : Prints write d at line y w) where
-  same-answer : x ≡ y
-  same-answer = by-equation (p .told) (q .told)
-
-  same-buffer : v ≡ w
-  same-buffer = by-equation (p .buffer) (q .buffer)
 
 pub first-line-only : Settled (endedOf 1 first-line-kinds.ps first-line-kinds.r) first-line.Post
 first-line-only κs a x y v w p q = (same-answer p q, λ j. (tt, (same-buffer p q j, (tt, (tt, tt)))))

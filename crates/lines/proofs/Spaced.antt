@@ -1,31 +1,21 @@
 -- The laws of the words of a line. Assumes nothing.
 use mathlib.Core.Path.{_≡_, refl, sym, ap, _∙_}
-use mathlib.Core.List.{List, [], _∷_, _++_, append-assoc, append-nil}
-use Prim.Native.Nat.{ℕ, zero, suc, _+_, _-_, _/_, _≤_, _<_}
+use mathlib.Core.List.{List, [], _∷_, _++_, append-assoc}
+use Prim.Native.Nat.{ℕ, zero, suc, _+_, _-_, _≤_, _<_}
 use native.Mathlib.Omega.{arith}
-use lib.ListN.{length, take, drop, length-append, length-drop, drop-of-length-le}
-use lib.Seq.{take-all, take-nil, take-at}
+use lib.ListN.{length, take, drop, length-drop, drop-of-length-le}
+use lib.Seq.{take-all, take-nil}
 use borrow.Author.Tests.{eq-eqb, ne-eqb}
 use Rattle.ground.specs.Words.{bytes}
-use Rattle.print.specs.Print.{lastDigits, hexOf, decimalOf, digitsOf, width, zeros, mostDigits}
-use Rattle.print.specs.declared.Digits.{Digits}
+use Rattle.print.specs.Print.{hexOf, decimalOf}
 use Rattle.record.specs.declared.Record.{Record}
+use Rattle.rail.proofs.Spaced.{spaced-append}
 use Rattle.record.specs.Kinds.{kindAt, none, pair}
 use Rattle.record.specs.Entry.{startOf, lenOf, named, upTo, entryOf}
 use Rattle.lines.specs.declared.words.Part.{Part}
-use Rattle.lines.specs.Lines.{blank, newline, spaced, goodLine, refusedLine, thirdWord, thirdOf, numbersOf, lineOf}
-use Rattle.lines.specs.Rail.{Lies}
-
--- words behind words
-pub spaced-append : (a b : List (List ℕ)) → spaced (a ++ b) ≡ spaced a ++ spaced b
-unfolding spaced
-spaced-append [] b = refl
-spaced-append (w ∷ a) b = rw (spaced-append a b, append-assoc w (spaced a) (spaced b))
-
--- a word behind a blank
-pub word-is : (w : List ℕ) → (blank ∷ []) ++ w ≡ spaced (w ∷ [])
-unfolding spaced
-word-is w = rw (append-nil w)
+use Rattle.rail.specs.Words.{newline, spaced}
+use Rattle.lines.specs.Lines.{goodLine, refusedLine, thirdWord, thirdOf, numbersOf, lineOf}
+use Rattle.lines.specs.Steps.{Lies}
 
 -- one label more
 up-to-more : {A : Type 0} (n : ℕ) (f : ℕ → A) → upTo (n + 1) f ≡ upTo n f ++ (f n ∷ [])
@@ -33,18 +23,6 @@ up-to-more zero f = refl
 up-to-more (suc n) f =
     let e : suc n + 1 ≡ suc (n + 1) = omega arith in
     rw e (ap (λ l. f zero ∷ l) (up-to-more n (λ k. f (suc k))))
-
--- ---- digits
-
-digits-length : (base k n : ℕ) → length (lastDigits base k n) ≡ k
-unfolding lastDigits
-digits-length base zero n = refl
-digits-length base (suc k) n = simp (length-append, digits-length base k (n / base)) (omega arith)
-
--- the digits of a number are the first bytes of their field
-pub field-first : (n : ℕ) (r : Digits) → r ≡ digitsOf n → take (r .len) (r .bytes) ≡ decimalOf n
-unfolding digitsOf decimalOf
-field-first n r e = rw e (take-at (lastDigits 10 (width n) n) (zeros (mostDigits - width n)) (width n) (digits-length 10 (width n) n))
 
 -- ---- the part of a text that lies inside it
 

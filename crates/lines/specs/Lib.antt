@@ -1,3 +1,3 @@
 pub mod Drawn
 pub mod Lines
-pub mod Rail
+pub mod Steps

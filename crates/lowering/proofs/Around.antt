@@ -10,9 +10,10 @@ use Rattle.refusal.proofs.Says.{says-eq}
 use Rattle.record.specs.Entry.{Label, Entry, noEntry, entryAt, labelNo}
 use Rattle.index.specs.Labels.{kindNo, nameNo, within}
 use Rattle.drawing.specs.Needs.{Shape, point, circle, arc, declaring}
-use Rattle.lowering.specs.Slots.{Slot, flat, slotsOfShape, labelsOf, slotsOf, slots, size, before, firstSlot}
+use Rattle.ground.specs.Lists.{flat}
+use Rattle.lowering.specs.Slots.{Slot, slotsOfShape, labelsOf, slotsOf, slots, size, before, firstSlot}
 use Rattle.lowering.specs.Demand.{Declares}
-use Rattle.lowering.proofs.Lists.{Each, each-append, each-flat, flat-append, picks-around, picks-each}
+use Rattle.ground.proofs.Pieces.{Each, each-append, each-flat, flat-append, picks-around, picks-each}
 use Rattle.lowering.proofs.Counts.{within-one, labels-pick, labels-before, labels-all, length-of}
 use Rattle.lowering.proofs.Fine.{Once, Fine, declaration}
 

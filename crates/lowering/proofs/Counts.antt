@@ -12,6 +12,7 @@ use Rattle.refusal.proofs.Says.{Says, says-and, says-eq, says-le, says-iff, say
 use Rattle.layout.specs.Slots as layout
 use Rattle.layout.proofs.Laws.{can-be}
 use Rattle.layout.specs.Refusals.{impossible}
+use Rattle.record.specs.Kinds.{firstRule, lastRule}
 use Rattle.record.specs.Entry.{Label, Entry, noEntry, entryAt, labelNo}
 use Rattle.index.specs.Labels.{kindNo, within}
 use Rattle.drawing.specs.Needs.{Shape, point, circle, arc, declaring}
@@ -19,7 +20,7 @@ use Rattle.drawing.specs.Check.{countBelow}
 use Rattle.lowering.specs.Slots.{slotsOfShape, labelsOf, slotsOf, slots, size, before, howMany, layoutOf}
 use Rattle.lowering.specs.Rows.{rulesOf}
 use Rattle.lowering.specs.Demand.{Declares, rulesBefore}
-use Rattle.lowering.proofs.Lists.{each-of, length-flat, Picks, picks-suc, picks-around}
+use Rattle.ground.proofs.Pieces.{each-of, length-flat, Picks, picks-suc, picks-around}
 
 -- ---- what is picked
 
@@ -36,7 +37,7 @@ labels-pick s = record {
   next = λ e es. ap (λ (b : Bool). cond b (labelNo e 0 ∷ labelsOf s es) (labelsOf s es)) (sym (within-one (declaring s) (e .kind)));
 }
 
-pub rules-pick : Picks (λ (e : Entry). within 4 23 (e .kind)) (λ e. e) rulesOf
+pub rules-pick : Picks (λ (e : Entry). within firstRule lastRule (e .kind)) (λ e. e) rulesOf
 rules-pick = record { none = refl; next = λ e es. refl }
 
 -- ---- how many are picked out of the first n

@@ -17,7 +17,7 @@ use Rattle.drawing.specs.Needs.{Shape, point, circle, arc}
 use Rattle.lowering.specs.Slots.{Slot, slotsOfShape, slots, size, before, kindFor, layoutOf, firstSlot}
 use Rattle.lowering.specs.Fields.{fieldOf}
 use Rattle.lowering.specs.Demand.{noSlot, slotAt, Declares, ComponentOf, HandsBack, ReadAs, ReadOut}
-use Rattle.lowering.proofs.Lists.{getD-map}
+use Rattle.ground.proofs.Pieces.{getD-map}
 use Rattle.lowering.proofs.Counts.{before-inside, length-shape, length-slots, possible}
 use Rattle.lowering.proofs.Fine.{Fine}
 use Rattle.lowering.proofs.Places.{slot-of, place-is}

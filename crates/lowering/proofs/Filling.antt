@@ -2,14 +2,14 @@
 use mathlib.Core.Path.{_≡_, refl, sym, _∙_, ap, subst}
 use mathlib.Core.Logic.{_⊎_, inl, inr, ⊎-elim}
 use mathlib.Core.Bool.{Bool, true, false, _||_}
-use mathlib.Core.List.{List, [], _++_}
+use mathlib.Core.List.{List, [], _∷_, _++_}
 use Prim.Native.Nat.{ℕ, zero, suc, _+_, _-_, _≤_, _<_}
 use native.Mathlib.Omega.{arith}
 use native.Mathlib.Nat.{le-refl}
 use native.Mathlib.Numerals.{add-one}
 use lib.Dec.{ltb}
-use lib.ListN.{length, take, drop, replicate, length-append, take-append-drop}
-use lib.Seq.{take-length}
+use lib.ListN.{length, getD, take, drop, replicate, length-append, take-append-drop}
+use lib.Seq.{take-length, getD-drop}
 use borrow.Author.Tests.{le-leb}
 use Rattle.store.specs.Store.{written, Put}
 use Rattle.store.proofs.Laws.{written-append, written-none}
@@ -18,23 +18,23 @@ use Rattle.layout.specs.declared.Layout.{Layout}
 use Rattle.layout.specs.Push.{over}
 use Rattle.layout.proofs.Onward.{over-front}
 use Rattle.record.specs.declared.Record.{Record}
-use Rattle.record.specs.Kinds.{kindAt, labelsColumn, needsColumn, table, cell}
+use Rattle.record.specs.Kinds.{kindAt, labelsColumn, needsColumn, table, cell, Rule, firstRule, lastRule}
 use Rattle.record.specs.Decode.{decodeAt}
-use Rattle.record.specs.Entry.{Label, Entry, entryAt, labelNo, entryOf}
+use Rattle.record.specs.Entry.{Label, Entry, entryAt, labelNo, entryOf, upTo}
 use Rattle.record.proofs.Cells.{needs-is}
 use Rattle.index.specs.Labels.{drawn, kindNo}
 use Rattle.index.proofs.Drawn.{drawn-at}
 use Rattle.drawing.specs.Needs.{codeAt}
-use Rattle.drawing.specs.Faults.{Rule}
 use Rattle.drawing.proofs.Laws.{four-labels, labels-read}
 use Rattle.lowering.specs.declared.spans.Span.{Span}
-use Rattle.lowering.specs.Slots.{flat}
-use Rattle.lowering.specs.Rows.{Naming, namingOf, mostIds, rowBytes, encodeRow}
+use Rattle.ground.specs.Lists.{flat}
+use Rattle.row.specs.Row.{mostIds, rowBytes, eight, bytesOf, encodeRow}
+use Rattle.lowering.specs.Rows.{Naming, namingOf}
 use Rattle.lowering.specs.Lower.{onto}
-use Rattle.lowering.specs.Steps.{namingBy, spanOf, sixOf, numberNo, spanIds, labelIds, rowIds, rowBytesOf, rowAt, rowIf, rowsBelow, Tables, Addable, Added, Sayable, Begins, Writing, Wrote, Writable}
-use Rattle.lowering.proofs.Lists.{flat-suc, flat-append}
+use Rattle.lowering.specs.Steps.{namingBy, spanOf, sixOf, numberNo, spanIds, labelIds, rowIds, rowAt, rowIf, rowsBelow, Tables, Addable, Added, Sayable, Begins, Writing, Wrote, Writable}
+use Rattle.ground.proofs.Pieces.{flat-suc, flat-append}
 use Rattle.lowering.proofs.Counts.{says-within}
-use Rattle.lowering.proofs.Bytes.{length-row}
+use Rattle.row.proofs.Back.{length-row}
 use Rattle.lowering.proofs.Naming.{naming-is}
 use Rattle.lowering.proofs.Spanning.{span-inside, label-length}
 
@@ -152,22 +152,26 @@ module _ (es : List Entry) (l : Layout) (ids : List ℕ) (i : ℕ) where
 
 -- ---- the bytes of a row
 
-zeros-drop : (k n : ℕ) → drop {A = ℕ} k (replicate n 0) ≡ replicate (n - k) 0
-zeros-drop zero n = let same : n - 0 ≡ n = omega arith in rw same refl
-zeros-drop (suc k) zero = let none : 0 - suc k ≡ 0 = omega arith in rw none refl
-zeros-drop (suc k) (suc n) = let same : suc n - suc k ≡ n - k = omega arith in rw same (zeros-drop k n)
+zeros-at : (n q : ℕ) → getD (replicate {A = ℕ} n 0) q 0 ≡ 0
+zeros-at zero q = refl
+zeros-at (suc n) zero = refl
+zeros-at (suc n) (suc q) = zeros-at n q
 
-zeros-behind : (ids : List ℕ) (n : ℕ) → onto (replicate n 0) ids ≡ ids ++ replicate (n - length ids) 0
-zeros-behind ids n = ap (λ (z : List ℕ). ids ++ z) (zeros-drop (length ids) n)
+-- zeros behind ids change none of them
+zeros-behind : (ids : List ℕ) (k n q : ℕ) → getD (ids ++ drop k (replicate n 0)) q 0 ≡ getD ids q 0
+zeros-behind [] k n q = getD-drop k (replicate n 0) q 0 ∙ zeros-at n (k + q)
+zeros-behind (id ∷ ids) k n zero = refl
+zeros-behind (id ∷ ids) k n (suc q) = zeros-behind ids k n q
 
 module _ (text records : List ℕ) (l : Layout) (ids : List ℕ) (i : ℕ) (r : Record) (e : r ≡ decodeAt records i) where
   pub row-is : (m : ℕ) (out : List ℕ) → Begins (rowIds (drawn text records) l ids (entryAt (drawn text records) i)) (replicate mostIds 0) m out → (b : List ℕ)
-      → b ≡ rowBytesOf (r .kind) m (r .third) out (r .x) → b ≡ rowAt (drawn text records) l ids i
-  unfolding rowAt encodeRow rowBytesOf entryOf
+      → b ≡ bytesOf (record { kind = r .kind; third = r .third; count = m; ids = out; bits = r .x }) → b ≡ rowAt (drawn text records) l ids i
+  unfolding rowAt encodeRow bytesOf entryOf
   row-is m out begins b eb =
       let given = rowIds (drawn text records) l ids (entryAt (drawn text records) i) in
-      let bytes : Entry → List ℕ = λ t. rowBytesOf (t .kind) (length given) (t .third) (given ++ replicate (mostIds - length given) 0) (t .x) in
-      eb ∙ rw (begins .count-is, begins .list-is, zeros-behind given mostIds) (sym (ap bytes (entry-is text records i r e)))
+      let bytes : Entry → List ℕ = λ t. encodeRow (record { kind = t .kind; third = t .third; ids = given; bits = t .x }) in
+      let same : eight (given ++ drop (length given) (replicate mostIds 0)) ≡ eight given = λ j. upTo mostIds (λ q. zeros-behind given (length given) mostIds q j) in
+      eb ∙ rw (begins .count-is, begins .list-is) (ap (λ (w : List ℕ). bytesOf (record { kind = r .kind; third = r .third; count = length given; ids = w; bits = r .x })) same) ∙ sym (ap bytes (entry-is text records i r e))
 
 -- ---- the rows
 
@@ -192,15 +196,15 @@ module _ (es : List Entry) (l : Layout) (ids : List ℕ) (i : ℕ) where
   -- what an entry adds where it is no rule, and where it is one
   pub if-none : (Rule (kindNo es i) → ⊥) → rowIf es l ids i ≡ []
   unfolding rowIf
-  if-none f = rw (refuted (says-within 4 23 (kindNo es i)) f) refl
+  if-none f = rw (refuted (says-within firstRule lastRule (kindNo es i)) f) refl
 
   pub if-row : Rule (kindNo es i) → rowIf es l ids i ≡ rowAt es l ids i
   unfolding rowIf
-  if-row u = rw (says-within 4 23 (kindNo es i) .back u) refl
+  if-row u = rw (says-within firstRule lastRule (kindNo es i) .back u) refl
 
-  pub row-length : Sayable es l ids i → length (rowAt es l ids i) ≡ rowBytes
+  pub row-length : length (rowAt es l ids i) ≡ rowBytes
   unfolding rowAt
-  row-length s = length-row _ (s .fits)
+  row-length = length-row _
 
 module _ (es : List Entry) (l : Layout) (ids : List ℕ) (i : ℕ) (rows : List ℕ) (at kind : ℕ) (is : kind ≡ kindNo es i) (w : Writing es l ids i rows at) where
   -- no rule: nothing is written
@@ -218,7 +222,7 @@ module _ (es : List Entry) (l : Layout) (ids : List ℕ) (i : ℕ) (rows : List 
     wrote-row row rows′ b er p =
         let full : row ≡ rowIf es l ids i = er ∙ sym (if-row es l ids i a-rule) in
         record {
-          place = rw (if-row es l ids i a-rule, row-length es l ids i (w .sayable a-rule)) refl;
+          place = rw (if-row es l ids i a-rule, row-length es l ids i) refl;
           rows-are = rw (← full) (put-is p (rw full (w .room)));
         }
 

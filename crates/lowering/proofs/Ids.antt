@@ -12,7 +12,7 @@ use Rattle.layout.specs.Push.{onward}
 use Rattle.lowering.specs.Slots.{Slot}
 use Rattle.lowering.specs.Rows.{idsWhere}
 use Rattle.lowering.specs.Demand.{noSlot}
-use Rattle.lowering.proofs.Lists.{Each, each-at, each-map}
+use Rattle.ground.proofs.Pieces.{Each, each-at, each-map}
 
 module _ (p : Slot → Bool) where
   -- ---- of lists put together

@@ -20,7 +20,7 @@ use Rattle.lowering.specs.Slots.{Slot, slot, slotsOfShape, slots, size, 
 use Rattle.lowering.specs.Rows.{Naming, whole, part, center, namingOf, Names, names, idsWhere, namedIds}
 use Rattle.lowering.specs.Offsets.{componentAt}
 use Rattle.lowering.specs.Demand.{Declares}
-use Rattle.lowering.proofs.Lists.{Each, each-left, each-right, each-both, each-map}
+use Rattle.ground.proofs.Pieces.{Each, each-left, each-right, each-both, each-map}
 use Rattle.lowering.proofs.Counts.{length-shape}
 use Rattle.lowering.proofs.Fine.{Fine, NoDot, Behind, plain-no-dot, plain-name, same-stem}
 use Rattle.lowering.proofs.Around.{Around, around-fine, Other, each-slot, each-of-all, own-label}

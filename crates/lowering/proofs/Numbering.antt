@@ -7,7 +7,6 @@ use native.Mathlib.Numerals.{add-one}
 use lib.ListN.{length, getD, set, replicate, length-set, getD-replicate}
 use Rattle.refusal.specs.First.{EachBelow}
 use Rattle.refusal.proofs.Says.{refuted}
-use Rattle.index.specs.Labels.{within}
 use Rattle.index.proofs.First.{put}
 use Rattle.drawing.specs.Check.{countBelow}
 use Rattle.lowering.proofs.Counts.{says-within, count-le}

@@ -14,7 +14,7 @@ use Rattle.drawing.specs.Needs.{Shape, point, circle, arc}
 use Rattle.lowering.specs.Slots.{Slot, slotsOfShape, slots, size, firstSlot}
 use Rattle.lowering.specs.Offsets.{componentAt}
 use Rattle.lowering.specs.Demand.{noSlot, slotAt, Declares, ComponentOf, OneComponent}
-use Rattle.lowering.proofs.Lists.{Each, each-of, each-at}
+use Rattle.ground.proofs.Pieces.{Each, each-of, each-at}
 use Rattle.lowering.proofs.Counts.{length-shape}
 use Rattle.lowering.proofs.Fine.{Fine, same-shape, same-record}
 use Rattle.lowering.proofs.Around.{around-fine, each-slot, each-of-all, own-label}

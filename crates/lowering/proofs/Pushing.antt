@@ -22,10 +22,11 @@ use Rattle.layout.proofs.Claims.{all-accepted}
 use Rattle.record.specs.Entry.{Label, Entry, noEntry}
 use Rattle.index.specs.Labels.{kindNo, nameNo}
 use Rattle.drawing.specs.Needs.{Shape, point, circle, arc, declaring}
-use Rattle.lowering.specs.Slots.{slotsOfShape, flat, labelsOf, slots, howMany, layoutOf, startOf, valuesOf}
+use Rattle.ground.specs.Lists.{flat}
+use Rattle.lowering.specs.Slots.{slotsOfShape, labelsOf, slots, howMany, layoutOf, startOf, valuesOf}
 use Rattle.lowering.specs.Lower.{onto}
 use Rattle.lowering.specs.Steps.{pairFor, circleFor, arcFor, shapeFor, shapeOf, pushedAt, pushedBelow, stage, laid, Passing}
-use Rattle.lowering.proofs.Lists.{picks-suc}
+use Rattle.ground.proofs.Pieces.{picks-suc}
 use Rattle.lowering.proofs.Counts.{within-one, labels-pick, labels-all, count-le, length-slots}
 use Rattle.lowering.proofs.Values.{length-values, values-parts}
 

@@ -1,12 +1,12 @@
 -- What the code's tests and answers come to, step by step: a choice by a kind, what is lacking, and a push that is taken or refused. Assumes nothing.
 use mathlib.Core.Path.{_≡_, refl, sym, _∙_, ap, subst}
-use mathlib.Core.Bool.{true, false, _||_, cond}
-use mathlib.Core.List.{List, [], _∷_}
+use mathlib.Core.Bool.{true, false, _||_}
+use mathlib.Core.List.{List}
 use Prim.Native.Nat.{ℕ, _+_, _*_, _≤_, _<_}
 use native.Mathlib.Omega.{arith}
 use native.Mathlib.Numerals.{add-one}
-use lib.Dec.{ltb, eqb}
-use lib.ListN.{length, getD}
+use lib.Dec.{ltb}
+use lib.ListN.{length}
 use lib.Ieee.{Float}
 use borrow.Author.Tests.{lt-ltb, le-ltb, eq-eqb, ne-eqb}
 use Rattle.layout.specs.declared.Layout.{Layout}
@@ -22,7 +22,7 @@ use Rattle.layout.specs.Push.{State, state, after, Push, toldIn, filled, steppe
 use Rattle.refusal.proofs.Once.{answered-pair}
 use Rattle.record.specs.Entry.{Label, Entry}
 use Rattle.index.specs.Labels.{kindNo, nameNo}
-use Rattle.lowering.specs.Rows.{rowBytes}
+use Rattle.row.specs.Row.{rowBytes}
 use Rattle.lowering.specs.Lower.{Room}
 use Rattle.lowering.specs.Steps.{byKind, shapeFor, shapeOf, layoutAfter, pushedAt, pushedBelow, step, stage, laid, Slotted, lackTold}
 
@@ -135,18 +135,3 @@ laid-by es first a b c ea eb ec = ec ∙ ap (stage es 3) (eb ∙ ap (stage es 2)
 -- a state, by its parts
 pub slotted : (s : State) (l : Layout) (next : ℕ) (ids : List ℕ) (values : List Float) → state l next ids values ≡ s → Slotted s l ids values
 slotted s l next ids values e = record { layout-is = ap (λ (t : State). t .layout) e; ids-are = ap (λ (t : State). t .ids) e; values-are = ap (λ (t : State). t .values) e }
-
--- ---- the bytes of a row
-
--- a list of eight, element by element
-pub eight-of : (a : List ℕ) → length a ≡ 8 → a ≡ getD a 0 0 ∷ getD a 1 0 ∷ getD a 2 0 ∷ getD a 3 0 ∷ getD a 4 0 ∷ getD a 5 0 ∷ getD a 6 0 ∷ getD a 7 0 ∷ []
-eight-of [] e = absurd (omega (arith, e))
-eight-of (a ∷ []) e = absurd (omega (arith, e))
-eight-of (a ∷ b ∷ []) e = absurd (omega (arith, e))
-eight-of (a ∷ b ∷ c ∷ []) e = absurd (omega (arith, e))
-eight-of (a ∷ b ∷ c ∷ d ∷ []) e = absurd (omega (arith, e))
-eight-of (a ∷ b ∷ c ∷ d ∷ f ∷ []) e = absurd (omega (arith, e))
-eight-of (a ∷ b ∷ c ∷ d ∷ f ∷ g ∷ []) e = absurd (omega (arith, e))
-eight-of (a ∷ b ∷ c ∷ d ∷ f ∷ g ∷ h ∷ []) e = absurd (omega (arith, e))
-eight-of (a ∷ b ∷ c ∷ d ∷ f ∷ g ∷ h ∷ i ∷ []) e = refl
-eight-of (a ∷ b ∷ c ∷ d ∷ f ∷ g ∷ h ∷ i ∷ j ∷ k) e = absurd (omega (arith, e))

@@ -25,20 +25,22 @@ use Rattle.refusal.specs.First.{passed}
 use Rattle.refusal.proofs.Once.{answered-passed}
 use Rattle.layout.proofs.Laws.{look-passes}
 use Rattle.layout.proofs.Onward.{length-onward, getD-onward}
-use Rattle.record.specs.Kinds.{kindAt}
+use Rattle.record.specs.Record.{mostRecords}
+use Rattle.record.specs.Kinds.{kindAt, Rule, newPoint, newArc, firstRule, lastRule, fixComponent, fixCenter}
 use Rattle.record.specs.Entry.{Label, Entry, entryAt, labelNo}
-use Rattle.record.specs.Formed.{most}
 use Rattle.index.specs.Labels.{kindNo, nameNo, same, within}
 use Rattle.index.proofs.Laws.{says-same}
 use Rattle.drawing.specs.Needs.{Shape, point, circle, arc, declaring, needAt}
-use Rattle.drawing.specs.Faults.{Rule, Meets}
-use Rattle.lowering.specs.Slots.{flat, slots, size, before, howMany, kindFor, layoutOf, firstSlot}
-use Rattle.lowering.specs.Rows.{whole, part, center, namingOf, namedIds, rowFor, rulesOf, rowsOf, encodeRow, encodeRows}
+use Rattle.drawing.specs.Faults.{Meets}
+use Rattle.ground.specs.Lists.{flat}
+use Rattle.lowering.specs.Slots.{slots, size, before, howMany, kindFor, layoutOf, firstSlot}
+use Rattle.row.specs.Row.{encodeRow, encodeRows}
+use Rattle.lowering.specs.Rows.{whole, part, center, namingOf, namedIds, rowFor, rulesOf, rowsOf}
 use Rattle.lowering.specs.Lower.{onto}
 use Rattle.lowering.specs.Offsets.{componentAt}
 use Rattle.lowering.specs.Demand.{Declares}
 use Rattle.lowering.specs.Steps.{shapeNo, sizeBy, centerBy, axisAt, endsIn, centerSpan, spanOf, sixOf, spanIds, labelIds, rowIds, rowAt, rowIf, rowsBelow, Sayable, Writable, Passing}
-use Rattle.lowering.proofs.Lists.{Each, each-of}
+use Rattle.ground.proofs.Pieces.{Each, each-of}
 use Rattle.lowering.proofs.Counts.{says-within, before-inside, length-slots, possible}
 use Rattle.lowering.proofs.Fine.{Fine, fine, declaration, NoDot, plain-no-dot, plain-name}
 use Rattle.lowering.proofs.Places.{slot-of}
@@ -87,9 +89,9 @@ no-center a n = go (ltb (length a) 7) refl
 -- ---- the span of a label, by what it names
 
 naming-part : (k : ℕ) → namingOf k ≡ part → k ≡ 4
-naming-part k = go (eqb k 4) refl (eqb k 18)
+naming-part k = go (eqb k fixComponent) refl (eqb k fixCenter)
   where
-    go : (a : Bool) → eqb k 4 ≡ a → (b : Bool) → cond a part (cond b center whole) ≡ part → k ≡ 4
+    go : (a : Bool) → eqb k fixComponent ≡ a → (b : Bool) → cond a part (cond b center whole) ≡ part → k ≡ 4
     go true f b e = eqb-true k 4 f
     go false f true e = let z : _≡_ {A = ℕ} 0 1 = cc in absurd (omega arith)
     go false f false e = let z : _≡_ {A = ℕ} 0 1 = cc in absurd (omega arith)
@@ -124,7 +126,7 @@ count-in es point = refl
 count-in es circle = refl
 count-in es arc = refl
 
-module _ (es : List Entry) (w : Fine es) (few : length es ≤ most) (next : ℕ) (ids : List ℕ) where
+module _ (es : List Entry) (w : Fine es) (few : length es ≤ mostRecords) (next : ℕ) (ids : List ℕ) where
   abbrev given : List ℕ
   given = onto ids (onward next (length (slots es)))
 
@@ -191,7 +193,7 @@ module _ (es : List Entry) (w : Fine es) (few : length es ≤ most) (next : ℕ)
     shape-found : shapeNo es (nameNo es j) ≡ j
     shape-found =
         let b = declaration s (declaring s) refl in
-        declared-found es w j s 1 3 d (omega arith) (omega arith) (b .0) (b .1)
+        declared-found es w j s newPoint newArc d (omega arith) (omega arith) (b .0) (b .1)
 
     -- by the record that declares the shape, and where what is named stands in it
     said-at : (k n : ℕ) (xs : List ℕ) → spanOf es (namingOf (e .kind)) (e .third) l ≡ record { shape = j; first = k; count = n }
@@ -292,12 +294,12 @@ module _ (es : List Entry) (w : Fine es) (few : length es ≤ most) (next : ℕ)
   rows-to : (n : ℕ) → n ≤ length es → rowsBelow es (layoutOf es) given n ≡ encodeRows (map (rowFor es next) (rulesOf (take n es)))
   unfolding rowsBelow rowIf
   rows-to zero h = refl
-  rows-to (suc n) h = go (within 4 23 (kindNo es n)) refl (rows-to n (omega (arith, h))) ∙ sym (rows-more es next n h)
+  rows-to (suc n) h = go (within firstRule lastRule (kindNo es n)) refl (rows-to n (omega (arith, h))) ∙ sym (rows-more es next n h)
     where
-      go : (b : Bool) → within 4 23 (kindNo es n) ≡ b → rowsBelow es (layoutOf es) given n ≡ encodeRows (map (rowFor es next) (rulesOf (take n es)))
+      go : (b : Bool) → within firstRule lastRule (kindNo es n) ≡ b → rowsBelow es (layoutOf es) given n ≡ encodeRows (map (rowFor es next) (rulesOf (take n es)))
           → rowsBelow es (layoutOf es) given n ++ cond b (rowAt es (layoutOf es) given n) []
           ≡ encodeRows (map (rowFor es next) (rulesOf (take n es))) ++ cond b (encodeRow (rowFor es next (entryAt es n))) []
-      go true e so-far = rw (so-far, row-same n h (says-within 4 23 (kindNo es n) .so e)) refl
+      go true e so-far = rw (so-far, row-same n h (says-within firstRule lastRule (kindNo es n) .so e)) refl
       go false e so-far = rw so-far refl
 
   rows-all : rowsBelow es (layoutOf es) given (length es) ≡ encodeRows (rowsOf es next)
@@ -312,5 +314,5 @@ module _ (es : List Entry) (next : ℕ) (ids : List ℕ) (values : List Float) (
   pub writable : Writable es (layoutOf es) (onto ids (onward next (length (slots es)))) rows
   writable = record {
     each = λ i h u. sayable es (fine es (p .passes)) (p .few) next ids i h u;
-    room = omega (arith, ap length rows-are, length-rows es (fine es (p .passes)) next, p .enough .rows-lent);
+    room = omega (arith, ap length rows-are, length-rows es next, p .enough .rows-lent);
   }

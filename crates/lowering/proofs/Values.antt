@@ -7,13 +7,13 @@ use lib.Dec.{eqb}
 use lib.ListN.{length, getD, length-map}
 use lib.Ieee.{Float, nan, binary64, ofBits}
 use Rattle.refusal.specs.First.{EachBelow}
+use Rattle.record.specs.Kinds.{pairGuess, Guess}
 use Rattle.record.specs.Entry.{Label, Entry}
 use Rattle.index.specs.Labels.{nameNo}
-use Rattle.drawing.specs.Needs.{Shape, point, circle, arc, pairGuess, Part, parts}
-use Rattle.drawing.specs.Faults.{Guess}
+use Rattle.drawing.specs.Needs.{Shape, point, circle, arc, Part, parts}
 use Rattle.lowering.specs.Slots.{Slot, slot, x-axis, y-axis, no-axis, slotsOfPart, slotsOfShape, slotsOf, slots, numberFor, startOf, valuesOf}
 use Rattle.lowering.specs.Demand.{noSlot, slotAt, Starts}
-use Rattle.lowering.proofs.Lists.{Each, each-at, each-flat, each-mem, getD-map}
+use Rattle.ground.proofs.Pieces.{Each, each-at, each-flat, each-mem, getD-map}
 use Rattle.lowering.proofs.Counts.{length-shape}
 use Rattle.lowering.proofs.Fine.{Fine}
 use Rattle.lowering.proofs.Found.{guess-kind, guess-of}

@@ -1,8 +1,8 @@
 -- The user's third demand, phrase by phrase: what a drawing that the check passes is lowered to, with enough ids left and enough room lent.
 use mathlib.Core.Path.{_≡_}
 use mathlib.Core.List.{List, [], _++_, List·Memᴰ}
-use Prim.Native.Nat.{ℕ, _+_, _*_, _^_, _≤_, _<_}
-use lib.ListN.{length, getD, set, take, drop}
+use Prim.Native.Nat.{ℕ, _+_, _*_, _≤_, _<_}
+use lib.ListN.{length, getD, set}
 use lib.Ieee.{Float, nan, binary64, ofBits}
 use Rattle.refusal.specs.First.{SomeBelow, EachBelow}
 use Rattle.layout.specs.declared.Stage.the-variants.{Done}
@@ -16,19 +16,20 @@ use Rattle.layout.specs.Slots as layout
 use Rattle.layout.specs.Slots.{idsEnd}
 use Rattle.layout.specs.Look.{pointIds, circleIds, arcSlotIds, pointRead, circleRead, arcRead}
 use Rattle.layout.specs.Run.{Distinct}
-use Rattle.record.specs.Decode.{u16}
+use Rattle.record.specs.Kinds.{Rule, Guess, firstRule, lastRule}
 use Rattle.record.specs.Entry.{Label, Entry, entryAt, labelNo}
 use Rattle.record.specs.Formed.{entries}
 use Rattle.index.specs.Labels.{kindNo, nameNo}
 use Rattle.drawing.specs.declared.Checked.the-variants as checked
 use Rattle.drawing.specs.Needs.{Shape, point, circle, arc, declaring}
-use Rattle.drawing.specs.Faults.{Rule, Guess}
 use Rattle.drawing.specs.Check.{countBelow, checkedOf}
 use Rattle.lowering.specs.declared.Lowered.{Lowered}
 use Rattle.lowering.specs.declared.Lowered.the-variants as L
-use Rattle.lowering.specs.Slots.{Slot, slot, slots, slotsOfShape, flat, size, before, howMany, kindFor, layoutOf, firstSlot, numberFor}
+use Rattle.ground.specs.Lists.{flat}
+use Rattle.lowering.specs.Slots.{Slot, slot, slots, slotsOfShape, size, before, howMany, kindFor, layoutOf, firstSlot, numberFor}
 use Rattle.lowering.specs.Fields.{fieldOf, Ids, of-point, of-circle, of-arc, idsKind, idOf}
-use Rattle.lowering.specs.Rows.{namingOf, Names, namedIds, Row, rulesOf, rowBytes, mostIds, encodeRow}
+use Rattle.row.specs.Row.{Row, rowBytes, mostIds, encodeRow, idAt, rowNo}
+use Rattle.lowering.specs.Rows.{namingOf, Names, namedIds, rulesOf}
 use Rattle.lowering.specs.Lower.{Room, roomIn, Lowers}
 
 -- enough ids left and enough room lent, for so many slots and rows
@@ -114,10 +115,6 @@ pub record Carries (es : List Entry) (next : ℕ) (e : Entry) (l : Label) (ids :
   pub all : (j : ℕ) → j < length (slots es) → NamesSlot es e l j → List·Memᴰ (next + j) ids
   pub rising : (a b : ℕ) → a < b → b < length ids → getD ids a 0 < getD ids b 0
 
--- the number of the four bytes from k on
-abbrev pub u32 : List ℕ → ℕ → ℕ
-u32 bs k = u16 bs k + u16 bs (k + 2) * 2 ^ 16
-
 -- bs is the row of the rule e: for each of its labels, in order, exactly the ids of the components that it names, and 0 where there is none
 pub record RowOf (es : List Entry) (next : ℕ) (e : Entry) (bs : List ℕ) : Type 0 where
   pub row : Row
@@ -127,16 +124,12 @@ pub record RowOf (es : List Entry) (next : ℕ) (e : Entry) (bs : List ℕ) : Ty
   pub bits-are : row .bits ≡ e .x
   pub ids-are : row .ids ≡ flat (namedIds es next e) (e .labels)
   pub no-more : length (row .ids) ≤ mostIds
-  pub ids-read : EachBelow mostIds (λ q. u32 bs (4 + q * 4) ≡ getD (row .ids) q 0)
+  pub ids-read : EachBelow mostIds (λ q. idAt bs q ≡ getD (row .ids) q 0)
   pub label-ids : EachBelow (length (e .labels)) (λ q. Carries es next e (labelNo e q) (namedIds es next e (labelNo e q)))
-
--- the bytes of row number k
-abbrev pub rowNo : List ℕ → ℕ → List ℕ
-rowNo rows k = take rowBytes (drop (k * rowBytes) rows)
 
 -- how many rules the first n records have
 abbrev pub rulesBefore : List Entry → ℕ → ℕ
-rulesBefore es n = countBelow (kindNo es) 4 23 n
+rulesBefore es n = countBelow (kindNo es) firstRule lastRule n
 
 -- ---- readout
 

@@ -1,15 +1,16 @@
--- A row for each rule (docs/FORMAT.md, "Lowering"): what a rule's labels name, the ids of those slots, and the row's 44 bytes.
+-- A row for each rule (docs/FORMAT.md, "Lowering"): what a rule's labels name, and the ids of those slots.
 use mathlib.Core.Path.{_≡_}
 use mathlib.Core.Bool.{Bool, _&&_, cond}
 use mathlib.Core.List.{List, [], _∷_, _++_, map}
-use Prim.Native.Nat.{ℕ, suc, _-_, _/_, _%_, _^_}
+use Prim.Native.Nat.{ℕ, suc}
 use lib.Dec.{eqb}
-use lib.ListN.{length, replicate}
 use Rattle.ground.specs.Words.{bytes}
-use Rattle.record.specs.Record.{le64}
+use Rattle.record.specs.Kinds.{firstRule, lastRule, fixComponent, fixCenter}
 use Rattle.record.specs.Entry.{Label, Entry}
+use Rattle.row.specs.Row.{Row}
 use Rattle.index.specs.Labels.{same, within}
-use Rattle.lowering.specs.Slots.{Slot, slots, flat}
+use Rattle.ground.specs.Lists.{flat}
+use Rattle.lowering.specs.Slots.{Slot, slots}
 
 -- ---- what a rule's label names
 
@@ -19,7 +20,7 @@ pub data Naming : Type 0 where
 
 -- by the rule's kind
 abbrev pub namingOf : ℕ → Naming
-namingOf kind = cond (eqb kind 4) part (cond (eqb kind 18) center whole)
+namingOf kind = cond (eqb kind fixComponent) part (cond (eqb kind fixCenter) center whole)
 
 -- the label l, with the rule's third byte, names a slot
 abbrev pub Names : Naming → ℕ → Label → Slot → Type 0
@@ -44,13 +45,6 @@ namedIds es next e l = idsWhere (names (namingOf (e .kind)) (e .third) l) next (
 
 -- ---- rows
 
--- a rule with ids in the place of labels
-pub record Row : Type 0 where
-  pub kind : ℕ
-  pub third : ℕ
-  pub ids : List ℕ
-  pub bits : ℕ
-
 -- the row of a rule: for each label, in order, the ids of what it names
 abbrev pub rowFor : List Entry → ℕ → Entry → Row
 rowFor es next e = record { kind = e .kind; third = e .third; ids = flat (namedIds es next e) (e .labels); bits = e .x }
@@ -58,38 +52,8 @@ rowFor es next e = record { kind = e .kind; third = e .third; ids = flat (namedI
 -- the rules of a drawing, kinds 4 to 23, in order
 abbrev pub rulesOf : List Entry → List Entry
 rulesOf [] = []
-rulesOf (e ∷ es) = cond (within 4 23 (e .kind)) (e ∷ rulesOf es) (rulesOf es)
+rulesOf (e ∷ es) = cond (within firstRule lastRule (e .kind)) (e ∷ rulesOf es) (rulesOf es)
 
 -- the rows of a drawing
 unfoldable pub rowsOf : List Entry → ℕ → List Row
 rowsOf es next = map (rowFor es next) (rulesOf es)
-
--- ---- rows as bytes
-
--- a row's length in bytes
-abbrev pub rowBytes : ℕ
-rowBytes = 44
-
--- the first byte of its mark; the second is the kind
-abbrev pub rowMark : ℕ
-rowMark = 82
-
--- the most ids of a row
-abbrev pub mostIds : ℕ
-mostIds = 8
-
--- a number as four bytes, the lowest first
-abbrev pub le32 : ℕ → List ℕ
-le32 n = n % 256 ∷ n / 2 ^ 8 % 256 ∷ n / 2 ^ 16 % 256 ∷ n / 2 ^ 24 % 256 ∷ []
-
--- eight ids, 0 where there is none
-abbrev pub eight : List ℕ → List ℕ
-eight ids = ids ++ replicate (mostIds - length ids) 0
-
--- the mark, the count of ids, the third byte, eight ids, the bits of the number
-unfoldable pub encodeRow : Row → List ℕ
-encodeRow r = rowMark ∷ r .kind ∷ length (r .ids) ∷ r .third ∷ (flat le32 (eight (r .ids)) ++ le64 (r .bits))
-
--- rows one after another
-abbrev pub encodeRows : List Row → List ℕ
-encodeRows = flat encodeRow

@@ -6,13 +6,15 @@ use Prim.Native.Nat.{ℕ}
 use lib.Dec.{eqb}
 use lib.ListN.{length}
 use lib.Ieee.{Float, binary64, ofBits}
+use Rattle.ground.specs.Lists.{flat}
 use Rattle.layout.specs.declared.Layout.{Layout}
 use Rattle.layout.specs.declared.Stage.the-variants.{Done}
 use Rattle.layout.specs.declared.ShapeKind.{ShapeKind}
 use Rattle.layout.specs.declared.ShapeKind.the-variants as K
 use Rattle.layout.specs.Slots.{sizeOf, slotOf}
+use Rattle.record.specs.Kinds.{pairGuess, numberGuess}
 use Rattle.record.specs.Entry.{Label, Entry, entryAt, labelNo}
-use Rattle.drawing.specs.Needs.{Shape, point, circle, arc, declaring, pairGuess, numberGuess, Part, parts}
+use Rattle.drawing.specs.Needs.{Shape, point, circle, arc, declaring, Part, parts}
 use Rattle.index.specs.Labels.{kindNo, labelled, lowestOr}
 use Rattle.drawing.specs.Check.{countBelow}
 
@@ -41,11 +43,6 @@ slot l suffix axis = record { shape = l; suffix = suffix; axis = axis }
 -- the components of a part of the shape l: a pair has two, a number is one
 abbrev pub slotsOfPart : Label → Part → List Slot
 slotsOfPart l p = cond (eqb (p .guess) pairGuess) (slot l (p .suffix) x-axis ∷ slot l (p .suffix) y-axis ∷ []) (slot l (p .suffix) no-axis ∷ [])
-
--- what f makes of each, one after another
-abbrev pub flat : {A B : Type 0} → (A → List B) → List A → List B
-flat f [] = []
-flat f (x ∷ xs) = f x ++ flat f xs
 
 -- the components of a shape with the label l
 abbrev pub slotsOfShape : Shape → Label → List Slot

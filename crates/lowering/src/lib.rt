@@ -1,11 +1,12 @@
 // Lowering: a drawing that passes the check becomes slots with ids and starting values, and a row for each rule.
-mod row;
+mod rules;
 mod shapes;
 mod spans;
 
 ghost use mathlib.Core.Path.{_≡_};
 ghost use Prim.Native.Nat.{_+_, _*_, _≤_};
-ghost use Rattle.record.specs.Formed.{most, entries};
+ghost use Rattle.record.specs.Record.{mostRecords};
+ghost use Rattle.record.specs.Formed.{entries};
 ghost use Rattle.layout.specs.Run.{slotsFor};
 ghost use Rattle.index.specs.Labels.{drawn};
 ghost use Rattle.lowering.specs.Lower.{Lowers, roomBy};
@@ -17,11 +18,10 @@ use layout::Layout;
 use layout::VARS_PER_ARC;
 use layout::VARS_PER_CIRCLE;
 use layout::VARS_PER_POINT;
-use row::fill_rows;
+use refusal::Refusal;
+use row::ROW;
+use rules::fill_rows;
 use shapes::fill_slots;
-
-// The length of a row.
-pub const ROW: usize = 44;
 
 // What lowering answers: the layout, the next id and how many rows there are, or a refusal.
 pub enum Lowered {
@@ -30,15 +30,12 @@ pub enum Lowered {
         next: u32,
         rows: usize,
     },
-    Refused {
-        number: u8,
-        place: usize,
-    },
+    Refused(Refusal),
 }
 
 // How many slots so many shapes have.
 fn slots_of(points: usize, circles: usize, arcs: usize) -> usize
-    requires { ⌜ (points ≤ most) × (circles ≤ most) × (arcs ≤ most) ⌝ }
+    requires { ⌜ (points ≤ mostRecords) × (circles ≤ mostRecords) × (arcs ≤ mostRecords) ⌝ }
     ensures { λ r. ⌜ r ≡ slotsFor points circles arcs ⌝ }
 {
     points * VARS_PER_POINT + circles * VARS_PER_CIRCLE + arcs * VARS_PER_ARC
@@ -90,7 +87,7 @@ pub fn lower(
 {
     let checked = check(text, records);
     match checked {
-        Checked::Refused { number, place } => Lowered::Refused { number, place },
+        Checked::Refused(r) => Lowered::Refused(r),
         Checked::Passed {
             points,
             circles,
@@ -100,10 +97,10 @@ pub fn lower(
             let slots = slots_of(points, circles, arcs);
             let told = lack(next, ids.len(), values.len(), rows.len(), slots, count);
             if told != 0 {
-                return Lowered::Refused {
+                return Lowered::Refused(Refusal {
                     number: told,
                     place: 0,
-                };
+                });
             }
             let layout = fill(text, records, next, ids, values, rows);
             Lowered::Good {

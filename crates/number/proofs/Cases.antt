@@ -4,8 +4,8 @@ use Prim.Native.Nat.{ℕ}
 use Prim.Native.String.{String}
 use lib.Ieee.{toBits, round, size}
 use Rattle.ground.specs.Words.{bytes}
-use Rattle.text.specs.Text.{runTo, wordAt, byteOn}
-use Rattle.text.specs.declared.Stand.the-variants.{At, Nothing, Refused}
+use Rattle.text.specs.Text.{refusedAt, runTo, wordAt, byteOn}
+use Rattle.text.specs.declared.Stand.the-variants.{At, Nothing}
 use Rattle.decimal.specs.Decimal.{valueOf, carried}
 use Rattle.root.specs.Function.{floorRoot, nearestRoot, scaledRoot, finiteRoot, rootOf}
 use Rattle.number.specs.Number.{after, numeral, partAt, endAt, joined, noDigit, exponentAt, noNumber, numberAt, closed, exprAt, exprOn}
@@ -19,7 +19,7 @@ abbrev pub value : ℕ → ℕ → Number
 value bits next = record { bits = bits; then = At next }
 
 abbrev pub refused : ℕ → ℕ → Number
-refused number place = noNumber (Refused number place)
+refused number place = noNumber (refusedAt number place)
 
 pub seams :
     -- the exponent without its digits, and behind a number that has one

@@ -7,9 +7,9 @@ use native.Mathlib.Omega.{arith}
 use types.Run.{OneOf}
 use denote.Enum.Declared.{tagOf}
 use Rattle.ground.specs.Words.{bytes}
-use Rattle.text.specs.Text.{wordOn}
+use Rattle.text.specs.Text.{refusedAt, wordOn}
 use Rattle.text.specs.declared.Stand.{Stand}
-use Rattle.text.specs.declared.Stand.the-variants.{At, Refused}
+use Rattle.text.specs.declared.Stand.the-variants.{At}
 use Rattle.text.proofs.Stand.{the-type}
 use Rattle.text.proofs.Laws.{handed}
 use Rattle.number.specs.Number.{noNumber, numberAt, closed, exprAt}
@@ -22,7 +22,7 @@ module _ (s : List ℕ) (at : ℕ) (after : Stand) (after-is : after ≡ wordOn 
   no-root (suc left) h = rw (← after-is) (handed after (numberAt s at) _ h)
 
   module _ (inside : ℕ) (place : after ≡ At inside) where
-    pub too-deep : (left : ℕ) → left ≡ 0 → noNumber (Refused 9 at) ≡ exprAt left s at
+    pub too-deep : (left : ℕ) → left ≡ 0 → noNumber (refusedAt 9 at) ≡ exprAt left s at
     unfolding exprAt wordOn
     too-deep left z = rw (z, ← after-is, place)
 

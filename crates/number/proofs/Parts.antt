@@ -8,7 +8,8 @@ use borrow.Author.Tests.{le-leb, lt-leb}
 use lib.Dec.{eqb}
 use lib.ListN.{length, getD}
 use Rattle.decimal.specs.Decimal.{limit}
-use Rattle.text.specs.declared.Stand.the-variants.{Nothing, Refused}
+use Rattle.text.specs.Text.{refusedAt}
+use Rattle.text.specs.declared.Stand.the-variants.{Nothing}
 use Rattle.text.proofs.Laws.{runTo-ahead}
 use Rattle.text.proofs.Within.{runTo-span}
 use Rattle.number.specs.Number.{isDigit, isSign, isMinus, isPoint, isExponent, isWord, after, partAt, endAt, joined, noDigit, digitsAt, numeral, longest, Run, Joined, exponentAt, cappedExponent, scaled, noNumber, numberAt}
@@ -56,7 +57,7 @@ few s first m count end none d = omega (arith, d .count-is, runTo-span isDigit s
 -- ---- the number
 
 module _ (s : List ℕ) (at : ℕ) where
-  pub word : (first : ℕ) → first ≡ after isSign s at → isWord (getD s first 0) ≡ true → noNumber (Refused 8 at) ≡ numberAt s at
+  pub word : (first : ℕ) → first ≡ after isSign s at → isWord (getD s first 0) ≡ true → noNumber (refusedAt 8 at) ≡ numberAt s at
   unfolding numberAt
   word first first-is e = rw (← first-is, e)
 

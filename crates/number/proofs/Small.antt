@@ -5,7 +5,7 @@ use Prim.Native.Nat.{ℕ, zero, suc, _-_, _^_, _<_}
 use lib.Dec.{lit<}
 use lib.ListN.{getD}
 use Rattle.ground.specs.Words.{bytes}
-use Rattle.text.specs.Text.{from, wordAt, byteOn}
+use Rattle.text.specs.Text.{from, refusedAt, wordAt, byteOn}
 use Rattle.text.specs.declared.Stand.{Stand}
 use Rattle.text.specs.declared.Stand.the-variants.{At, Nothing, Refused}
 use Rattle.decimal.specs.declared.Carried.{Carried}
@@ -27,11 +27,11 @@ no-number t = record { bits-fit = lit< tt }
 
 valued-fit : (at next : ℕ) (c : Carried) → Small c → Fit (valued at next c)
 valued-fit at next (Bits b) h = record { bits-fit = h }
-valued-fit at next Outside h = no-number (Refused 8 at)
+valued-fit at next Outside h = no-number (refusedAt 8 at)
 
 scaled-fit : (at : ℕ) (negative : Bool) (m count : ℕ) (e : Exponent) → Fit (scaled at negative m count e)
 scaled-fit at negative m count (Power below size next) = valued-fit at next (carried m (scaleOf below size count) negative) (carried-small m (scaleOf below size count) negative)
-scaled-fit at negative m count Missing = no-number (Refused 8 at)
+scaled-fit at negative m count Missing = no-number (refusedAt 8 at)
 
 either-fit : (a b : Bool) (x y z : Number) → Fit x → Fit y → Fit z → Fit (cond a x (cond b y z))
 either-fit true b x y z e f g = e
@@ -43,13 +43,13 @@ module _ (s : List ℕ) where
   unfolding numberAt
   numberAt-fit at =
       let first = after isSign s at in
-      either-fit (isWord (getD s first 0)) (noDigit s first) (noNumber (Refused 8 at)) (noNumber Nothing) _ (no-number (Refused 8 at)) (no-number Nothing)
+      either-fit (isWord (getD s first 0)) (noDigit s first) (noNumber (refusedAt 8 at)) (noNumber Nothing) _ (no-number (refusedAt 8 at)) (no-number Nothing)
       (scaled-fit at (isMinus (getD s at 0)) (numeral 0 (joined s first)) (endAt s first - partAt s first) (exponentAt s (endAt s first)))
 
   from-fit : (t : Stand) (rest : Number) (read : ℕ → Number) → Fit rest → ((n : ℕ) → Fit (read n)) → Fit (from t rest read)
   from-fit (At n) rest read h k = k n
   from-fit Nothing rest read h k = h
-  from-fit (Refused number place) rest read h k = h
+  from-fit (Refused why) rest read h k = h
 
   closed-fit : (inner : Number) → Fit inner → Fit (closed s inner)
   unfolding closed
@@ -57,7 +57,7 @@ module _ (s : List ℕ) where
 
   exprAt-fit : (left at : ℕ) → Fit (exprAt left s at)
   unfolding exprAt
-  exprAt-fit zero at = from-fit (wordAt s (bytes "sqrt(") at) (numberAt s at) _ (numberAt-fit at) (λ n. no-number (Refused 9 at))
+  exprAt-fit zero at = from-fit (wordAt s (bytes "sqrt(") at) (numberAt s at) _ (numberAt-fit at) (λ n. no-number (refusedAt 9 at))
   exprAt-fit (suc left) at = from-fit (wordAt s (bytes "sqrt(") at) (numberAt s at) _ (numberAt-fit at) (λ n. closed-fit (exprAt left s n) (exprAt-fit left n))
 
   pub number-fit : (t : Stand) → Fit (numberOn s t)

@@ -8,7 +8,7 @@ use native.Mathlib.Omega.{arith}
 use lib.Dec.{leb}
 use lib.ListN.{length, getD}
 use Rattle.ground.specs.Words.{bytes}
-use Rattle.text.specs.Text.{from, wordAt, byteOn}
+use Rattle.text.specs.Text.{from, refusedAt, wordAt, byteOn}
 use Rattle.text.specs.declared.Stand.{Stand}
 use Rattle.text.specs.declared.Stand.the-variants.{At, Nothing, Refused}
 use Rattle.text.proofs.Laws.{runTo-ahead}
@@ -95,7 +95,7 @@ module _ (s : List ℕ) where
       let first = after isSign s at in
       let a = after-span isSign at refl h in
       let e = end-span first (a .1) in
-      either-within (isWord (getD s first 0)) (noDigit s first) at (noNumber (Refused 8 at)) (noNumber Nothing)
+      either-within (isWord (getD s first 0)) (noDigit s first) at (noNumber (refusedAt 8 at)) (noNumber Nothing)
       (scaled at (isMinus (getD s at 0)) (numeral 0 (joined s first)) (endAt s first - partAt s first) (exponentAt s (endAt s first)))
       tt tt
       (scaled-within at at (isMinus (getD s at 0)) (numeral 0 (joined s first)) (endAt s first - partAt s first) (endAt s first) (exponentAt s (endAt s first)) (over a e) (exponent-span (endAt s first) (e .1)))
@@ -105,7 +105,7 @@ module _ (s : List ℕ) where
   rooted-within : (p bits : ℕ) (t : Stand) → Within s p t → Within s p (from t (noNumber t) (λ next. record { bits = bits; then = At next }) .then)
   rooted-within p bits (At n) k = k
   rooted-within p bits Nothing k = tt
-  rooted-within p bits (Refused number place) k = tt
+  rooted-within p bits (Refused why) k = tt
 
   closed-within : (p : ℕ) (inner : Number) → Within s p (inner .then) → Within s p (closed s inner .then)
   unfolding closed
@@ -116,7 +116,7 @@ module _ (s : List ℕ) where
       → ((inside : ℕ) → at ≤ inside → inside ≤ length s → Within s at (rest inside .then)) → Within s at (from t n rest .then)
   nested-within at (At inside) n rest k h f = f inside (k .0) (k .1)
   nested-within at Nothing n rest k h f = h
-  nested-within at (Refused number place) n rest k h f = h
+  nested-within at (Refused why) n rest k h f = h
 
   exprAt-within : (left at : ℕ) → at ≤ length s → Within s at (exprAt left s at .then)
   unfolding exprAt
@@ -130,10 +130,10 @@ module _ (s : List ℕ) where
     unfolding numberOn
     number-within (At n) h = earlier s (numberAt s n .then) (h .0) (numberAt-within n (h .1))
     number-within Nothing h = tt
-    number-within (Refused number place) h = tt
+    number-within (Refused why) h = tt
 
     pub expr-within : (stand : Stand) → Within s p stand → Within s p (exprOn s stand .then)
     unfolding exprOn
     expr-within (At n) h = earlier s (exprAt depth s n .then) (h .0) (exprAt-within depth n (h .1))
     expr-within Nothing h = tt
-    expr-within (Refused number place) h = tt
+    expr-within (Refused why) h = tt

@@ -6,9 +6,9 @@ use Prim.Native.Nat.{ℕ, zero, suc, _+_, _-_, _*_, _^_, min}
 use lib.Dec.{leb, eqb}
 use lib.ListN.{drop, getD}
 use Rattle.ground.specs.Words.{bytes}
-use Rattle.text.specs.Text.{from, inRange, run, runTo, wordAt, byteOn}
+use Rattle.text.specs.Text.{from, refusedAt, inRange, run, runTo, wordAt, byteOn}
 use Rattle.text.specs.declared.Stand.{Stand}
-use Rattle.text.specs.declared.Stand.the-variants.{At, Nothing, Refused}
+use Rattle.text.specs.declared.Stand.the-variants.{At, Nothing}
 use Rattle.decimal.specs.Decimal.{limit, carried}
 use Rattle.decimal.specs.declared.Scale.{Scale}
 use Rattle.decimal.specs.declared.Scale.the-variants.{Times, Over}
@@ -106,18 +106,18 @@ noNumber stand = record { bits = 0; then = stand }
 -- the bits of a carried number with the place after it, or 8 at its first byte
 abbrev pub valued : ℕ → ℕ → Carried → Number
 valued at next (Bits bits) = record { bits = bits; then = At next }
-valued at next Outside = noNumber (Refused 8 at)
+valued at next Outside = noNumber (refusedAt 8 at)
 
 -- a number by its sign, its digits m, the count of those after the point, and its exponent
 abbrev pub scaled : ℕ → Bool → ℕ → ℕ → Exponent → Number
 scaled at negative m count (Power below size next) = valued at next (carriedBy m negative below size count)
-scaled at negative m count Missing = noNumber (Refused 8 at)
+scaled at negative m count Missing = noNumber (refusedAt 8 at)
 
 -- a number at a place: an optional sign; digits with an optional point and digits; an optional exponent
 unfoldable pub numberAt : List ℕ → ℕ → Number
 numberAt s at =
     let first = after isSign s at in
-    cond (isWord (getD s first 0)) (noNumber (Refused 8 at))
+    cond (isWord (getD s first 0)) (noNumber (refusedAt 8 at))
     (cond (noDigit s first) (noNumber Nothing)
     (scaled at (isMinus (getD s at 0)) (numeral 0 (joined s first)) (endAt s first - partAt s first) (exponentAt s (endAt s first))))
 
@@ -139,7 +139,7 @@ closed s inner =
 
 -- a number, or `sqrt(`, an expression, `)`; where no more roots may open, 9 at the next one's first byte
 unfoldable pub exprAt : ℕ → List ℕ → ℕ → Number
-exprAt zero s at = from (wordAt s (bytes "sqrt(") at) (numberAt s at) (λ inside. noNumber (Refused 9 at))
+exprAt zero s at = from (wordAt s (bytes "sqrt(") at) (numberAt s at) (λ inside. noNumber (refusedAt 9 at))
 exprAt (suc left) s at = from (wordAt s (bytes "sqrt(") at) (numberAt s at) (λ inside. closed s (exprAt left s inside))
 
 -- an expression where reading stands

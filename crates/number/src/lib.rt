@@ -6,6 +6,7 @@ ghost use Rattle.decimal.specs.Decimal.{carried};
 ghost use Rattle.number.specs.Number.{isDigit, isSign, isPoint, isExponent, isWord, after, capped, Run, Joined, longest, carriedBy, exponentAt, cappedExponent, valued, scaled, noNumber, numberAt, numberOn, closed, exprAt, exprOn};
 use decimal::Carried;
 use decimal::Scale;
+use refusal::Refusal;
 use text::Stand;
 
 // The bits of a number, and where reading stands behind it; the bits are 0 where none was read.
@@ -211,10 +212,10 @@ fn value(at: usize, next: usize, carried: Carried) -> Number
             bits,
             then: Stand::At(next),
         },
-        Carried::Outside => no_number(Stand::Refused {
+        Carried::Outside => no_number(Stand::Refused(Refusal {
             number: 8,
             place: at,
-        }),
+        })),
     }
 }
 
@@ -229,10 +230,10 @@ fn scale_by(at: usize, negative: bool, m: u64, count: u64, exponent: Exponent) -
             size,
             next,
         } => value(at, next, carry(m, negative, below, size, count)),
-        Exponent::Missing => no_number(Stand::Refused {
+        Exponent::Missing => no_number(Stand::Refused(Refusal {
             number: 8,
             place: at,
-        }),
+        })),
     }
 }
 
@@ -242,10 +243,10 @@ fn number_at(text: &[u8], at: usize) -> Number
 {
     let first = after_sign(text, at);
     if is_word(text::byte_at(text, first)) {
-        return no_number(Stand::Refused {
+        return no_number(Stand::Refused(Refusal {
             number: 8,
             place: at,
-        });
+        }));
     }
     let digits = mantissa_at(text, first);
     if digits.none {
@@ -290,10 +291,10 @@ fn nested(text: &[u8], at: usize, left: u32) -> Number
         return number_at(text, at);
     };
     if left == 0 {
-        return no_number(Stand::Refused {
+        return no_number(Stand::Refused(Refusal {
             number: 9,
             place: at,
-        });
+        }));
     }
     let inner = nested(text, inside, left - 1);
     close_root(text, inner)

@@ -6,7 +6,7 @@ use native.Mathlib.Nat.{pow-suc, lt-irrefl}
 use native.Mathlib.Decide.{decLe}
 use native.Mathlib.Omega.{arith}
 use lib.ListN.{length, take, drop, set, length-set, length-append}
-use lib.Seq.{append-snoc, length-take-le, drop-cons, drop-set-lt, getD-set-same}
+use lib.Seq.{append-snoc, length-take-le, take-at, drop-cons, drop-set-lt, getD-set-same}
 use borrow.Author.Tests.{lt-ltb, le-ltb}
 use Rattle.print.specs.Print.{signOf, lastDigits, zeros, mostDigits, widthUpTo, width, decimalOf, digitsOf}
 use Rattle.print.specs.declared.Digits.{Digits}
@@ -113,3 +113,8 @@ unfolding digitsOf decimalOf
 field-counts n r e =
     let inside : width n ≤ length (lastDigits 10 (width n) n ++ zeros (mostDigits - width n)) = simp (length-append, digits-length) (omega arith) in
     rw e (inside, sym (length-take-le (width n) (lastDigits 10 (width n) n ++ zeros (mostDigits - width n)) inside))
+
+-- the digits of a number are the first bytes of their field
+pub field-first : (n : ℕ) (r : Digits) → r ≡ digitsOf n → take (r .len) (r .bytes) ≡ decimalOf n
+unfolding digitsOf decimalOf
+field-first n r e = rw e (take-at (lastDigits 10 (width n) n) (zeros (mostDigits - width n)) (width n) (digits-length 10 (width n) n))

@@ -7,27 +7,30 @@ use native.Mathlib.Omega.{arith}
 use borrow.Author.Tests.{le-leb, lt-ltb, le-ltb, ltb-false}
 use lib.Dec.{ltb}
 use lib.ListN.{length, take, length-append}
+use Rattle.refusal.specs.declared.Refusal.{Refusal}
 use Rattle.text.specs.declared.Stand.{Stand}
 use Rattle.text.specs.declared.Stand.the-variants.{At, Nothing, Refused}
 use Rattle.store.specs.Store.{room, written}
 use Rattle.store.proofs.Laws.{written-first}
-use Rattle.record.specs.Record.{recordBytes, encodeAll}
+use Rattle.record.specs.Record.{recordBytes, mostRecords, longestText, encodeAll}
 use Rattle.record.proofs.Back.{count-all}
 use Rattle.reader.specs.declared.Reading.{Reading}
 use Rattle.reader.specs.declared.Reading.the-variants as reading
-use Rattle.reader.specs.Page.{longestText, mostRecords, highAt, toldOf, endedOf, problemOf, readingOf, recordsIn, writtenBy, bufferAfter, Reads, stored, Paged, Ended}
-use Rattle.reader.proofs.Storing.{stored-all}
-use Rattle.reader.proofs.Turns.{lines-few}
+use Rattle.forms.specs.Section.{stored}
+use Rattle.forms.proofs.Storing.{stored-all}
+use Rattle.forms.proofs.SoundSection.{lines-due}
+use Rattle.reader.specs.Page.{highAt, refused, toldOf, endedOf, problemOf, readingOf, recordsIn, writtenBy, bufferAfter, Reads}
+use Rattle.reader.specs.Steps.{Paged, Ended}
 
 -- ---- how many records a page can have
 
 pub instructions-few : (s : List ℕ) → length (problemOf s .instructions) ≤ 2 * suc (length s)
 unfolding problemOf
-instructions-few s = lines-few false s _ 4
+instructions-few s = lines-due s false _ 4 .few
 
 pub guesses-few : (s : List ℕ) → length (problemOf s .guesses) ≤ 2 * suc (length s)
 unfolding problemOf
-guesses-few s = lines-few true s _ 7
+guesses-few s = lines-due s true _ 7 .few
 
 -- ---- a good answer says that there is room
 
@@ -43,7 +46,7 @@ good-says whole size i g bytes end a b e h =
     go (whole && ltb end size) (ltb mostRecords (i + g)) (ltb bytes (recordBytes * (i + g))) refl refl h
   where
     go : (x y z : Bool) → ltb mostRecords (i + g) ≡ y → ltb bytes (recordBytes * (i + g)) ≡ z
-        → cond x (reading.Refused 10 end) (cond y (reading.Refused 11 0) (cond z (reading.Refused 12 0) (reading.Good i g end))) ≡ reading.Good a b e
+        → cond x (refused 10 end) (cond y (refused 11 0) (cond z (refused 12 0) (reading.Good i g end))) ≡ reading.Good a b e
         → Says i g bytes end a b e
     go true y z f k t = let c : _≡_ {A = ℕ} 0 1 = cc in absurd (omega arith)
     go false true z f k t = let c : _≡_ {A = ℕ} 0 1 = cc in absurd (omega arith)
@@ -63,18 +66,18 @@ good-says whole size i g bytes end a b e h =
 -- ---- the ways in which reading ends
 
 module _ (whole : Bool) (s d zeros own : List ℕ) (i g : ℕ) (then : Stand) (p : Paged s zeros i g then own) where
-  pub nothing-left : then ≡ Nothing → Ended whole s d (reading.Refused 3 0) d
+  pub nothing-left : then ≡ Nothing → Ended whole s d (refused 3 0) d
   nothing-left e = record { told = rw (← p .then-is, e); buffer = refl }
 
-  pub handed-on : (number place : ℕ) → then ≡ Refused number place → Ended whole s d (reading.Refused number place) d
-  handed-on number place e = record { told = rw (← p .then-is, e); buffer = refl }
+  pub handed-on : (why : Refusal) → then ≡ Refused why → Ended whole s d (reading.Refused why) d
+  handed-on why e = record { told = rw (← p .then-is, e); buffer = refl }
 
   module _ (end : ℕ) (r : Reading) (at : then ≡ At end) (r-is : r ≡ toldOf whole (length s) i g (length d) end) where
     told-is : r ≡ endedOf whole s (problemOf s) (length d) (problemOf s .then)
     told-is = rw (← p .then-is, at, ← p .instructions-are, ← p .guesses-are) r-is
 
-    pub refused-late : (number place : ℕ) → r ≡ reading.Refused number place → Ended whole s d r d
-    refused-late number place e = record { told = told-is; buffer = rw e }
+    pub refused-late : (why : Refusal) → r ≡ reading.Refused why → Ended whole s d r d
+    refused-late why e = record { told = told-is; buffer = rw e }
 
     module _ (a b e : ℕ) (good : r ≡ reading.Good a b e) (size : 50400 ≡ length zeros) where
       says : Says i g (length d) end a b e
@@ -113,14 +116,14 @@ module _ (whole : Bool) (s d : List ℕ) where
   unfolding bufferAfter
   reads-by r d′ e f = record { told = e; buffer = rw (← e) f }
 
-  pub too-long : longestText < length s → Reads whole s d (reading.Refused 1 0) d
+  pub too-long : longestText < length s → Reads whole s d (refused 1 0) d
   unfolding readingOf
-  too-long h = reads-by (reading.Refused 1 0) d (rw (lt-ltb longestText (length s) h)) refl
+  too-long h = reads-by (refused 1 0) d (rw (lt-ltb longestText (length s) h)) refl
 
   module _ (short : length s ≤ longestText) where
-    pub high : (place : ℕ) → place ≡ highAt s → place < length s → Reads whole s d (reading.Refused 2 place) d
+    pub high : (place : ℕ) → place ≡ highAt s → place < length s → Reads whole s d (refused 2 place) d
     unfolding readingOf
-    high place e h = reads-by (reading.Refused 2 place) d (rw (le-ltb longestText (length s) short, ← e, lt-ltb place (length s) h)) refl
+    high place e h = reads-by (refused 2 place) d (rw (le-ltb longestText (length s) short, ← e, lt-ltb place (length s) h)) refl
 
     pub read : (place : ℕ) (r : Reading) (d′ : List ℕ) → place ≡ highAt s → length s ≤ place → Ended whole s d r d′ → Reads whole s d r d′
     unfolding readingOf

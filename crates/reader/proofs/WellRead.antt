@@ -12,7 +12,7 @@ use borrow.Author.Tests.{ltb-false, leb-true, leb-false, lt-ltb}
 use Rattle.refusal.specs.First.{Nowhere}
 use Rattle.text.specs.declared.Stand.{Stand}
 use Rattle.text.specs.declared.Stand.the-variants.{At, Nothing, Refused}
-use Rattle.record.specs.Record.{recordBytes, firstGuess, encodeAll}
+use Rattle.record.specs.Record.{recordBytes, mostRecords, longestText, firstGuess, encodeAll}
 use Rattle.record.specs.Decode.{decode, countOf, recordOf, decodeAt, noRecord}
 use Rattle.record.specs.Entry.{noEntry, entryOf}
 use Rattle.record.specs.Sound.{Good}
@@ -23,11 +23,11 @@ use Rattle.record.proofs.Entries.{whole-length}
 use Rattle.record.proofs.Told.{passed-iff}
 use Rattle.record.proofs.WellFormed.{well-formed-iff}
 use Rattle.record.proofs.Written.{good-written, entry-decoded}
+use Rattle.forms.proofs.Stands.{Reached, here}
 use Rattle.reader.specs.declared.Reading.the-variants as reading
-use Rattle.reader.specs.Page.{longestText, mostRecords, problemOf, highAt, endedOf, readingOf, recordsIn, linesOf, bufferAfter, Reads}
+use Rattle.reader.specs.Page.{problemOf, highAt, refused, endedOf, readingOf, recordsIn, linesOf, bufferAfter, Reads}
 use Rattle.reader.proofs.Ends.{good-says}
 use Rattle.reader.proofs.Written.{written-fits, read-back}
-use Rattle.reader.proofs.Reached.{Reached, here}
 use Rattle.reader.proofs.SoundPage.{some-of-each, instruction-at, guess-at, record-at}
 
 -- ---- the bytes of the records of a page
@@ -96,14 +96,14 @@ module _ (whole : Bool) (s : List ℕ) (size i g end : ℕ) where
         few = omega (arith, w .few, length-append (problemOf s .instructions) (problemOf s .guesses));
       }
   good-ended Nothing short at h = let c : _≡_ {A = ℕ} 0 1 = cc in absurd (omega arith)
-  good-ended (Refused number place) short at h = let c : _≡_ {A = ℕ} 0 1 = cc in absurd (omega arith)
+  good-ended (Refused why) short at h = let c : _≡_ {A = ℕ} 0 1 = cc in absurd (omega arith)
 
   good-read : readingOf whole s size ≡ reading.Good i g end → GoodPage s i g end
   unfolding readingOf
   good-read h = go (ltb longestText (length s)) (ltb (highAt s) (length s)) refl h
     where
       go : (a b : Bool) → ltb longestText (length s) ≡ a
-          → cond a (reading.Refused 1 0) (cond b (reading.Refused 2 (highAt s)) (endedOf whole s (problemOf s) size (problemOf s .then))) ≡ reading.Good i g end → GoodPage s i g end
+          → cond a (refused 1 0) (cond b (refused 2 (highAt s)) (endedOf whole s (problemOf s) size (problemOf s .then))) ≡ reading.Good i g end → GoodPage s i g end
       go true b e k = let c : _≡_ {A = ℕ} 0 1 = cc in absurd (omega arith)
       go false true e k = let c : _≡_ {A = ℕ} 0 1 = cc in absurd (omega arith)
       go false false e k = good-ended (problemOf s .then) (ltb-false longestText (length s) e) refl k

@@ -6,17 +6,20 @@ use Prim.Native.Nat.{ℕ, zero, suc, _+_, _-_, _≤_, _<_}
 use native.Mathlib.Nat.{not-suc-le-zero}
 use native.Mathlib.Omega.{arith}
 use native.Mathlib.Decide.{decLt}
-use lib.Dec.{leb, ltb}
+use lib.Dec.{leb, ltb, eqb}
 use lib.ListN.{length, List·getD-eq-default}
 use borrow.Author.Tests.{ltb-true}
 use Rattle.refusal.specs.First.{EachBelow, allBelow}
 use Rattle.refusal.proofs.Says.{Says, refuted, says-once, says-so, says-and, says-unless, says-cond, says-if, says-iff, says-eq, says-le, says-lt, says-all}
+use Rattle.bytes.specs.Little.{byte}
+use Rattle.record.specs.Steps.{spelledAll, goodKind}
+use Rattle.record.specs.declared.View.{View}
 use Rattle.record.specs.declared.Record.{Record}
 use Rattle.record.specs.Kinds.{Kind, kinds, kindAt, noKind, none, pair}
-use Rattle.record.specs.Record.{recordBytes, mark, firstGuess}
-use Rattle.record.specs.Decode.{byte, decode}
-use Rattle.record.specs.Entry.{Entry, noEntry, labelNo, startOf, lenOf, named, entryOf}
-use Rattle.record.specs.Sound.{longest, labelPlaces, guessEnd, guessZeros, Placed, Framed, Known, Sound, Good, spelledTest, spelledAll, placedTest, framedTest, fieldsTest, soundTest, goodTest, goodKind}
+use Rattle.record.specs.Record.{recordBytes, mark, firstGuess, labelPlaces, longestText}
+use Rattle.record.specs.Decode.{decode}
+use Rattle.record.specs.Entry.{Entry, noEntry, labelNo, named, entryOf, noView, viewOf}
+use Rattle.record.specs.Sound.{guessEnd, guessZeros, Placed, Framed, Known, Sound, Good, spelledTest, placedTest, framedTest, fieldsTest, soundTest, goodTest}
 use Rattle.record.proofs.Spelled.{says-spelled}
 use Rattle.record.proofs.UpTo.{length-up-to, getD-up-to}
 
@@ -27,16 +30,23 @@ pub inside-is : (start len n : ℕ) → start ≤ n → leb len (n - start) ≡ 
 inside-is start len n h =
     says-once (says-le len (n - start)) (says-iff (λ g. omega (arith, g, h)) (λ g. omega (arith, g, h)) (says-le (start + len) n))
 
-says-placed : (text : List ℕ) (r : Record) (q : ℕ) → Says (placedTest (startOf r q) (lenOf r q) (ltb q (r .count)) (length text)) (Placed text r q)
+says-none : (v : View) → Says (eqb (v .start) 0 && eqb (v .len) 0) (v ≡ noView)
+says-none v =
+    says-iff
+    (λ w i. record { start = w .0 i; len = w .1 i })
+    (λ e. (ap (λ (u : View). u .start) e, ap (λ (u : View). u .len) e))
+    (says-and (says-eq (v .start) 0) (says-eq (v .len) 0))
+
+says-placed : (text : List ℕ) (r : Record) (q : ℕ) → Says (placedTest (viewOf r q) (ltb q (r .count)) (length text)) (Placed text r q)
 says-placed text r q =
     says-iff
     (λ w. record { used = w .0; unused = λ h. w .1 (λ g. omega (arith, h, g)) })
     (λ p. (p .used, λ f. p .unused (omega (arith, f))))
-    (says-cond (says-lt q (r .count)) (says-le (startOf r q + lenOf r q) (length text)) (says-and (says-eq (startOf r q) 0) (says-eq (lenOf r q) 0)))
+    (says-cond (says-lt q (r .count)) (says-le (viewOf r q .start + viewOf r q .len) (length text)) (says-none (viewOf r q)))
 
 -- a label place that is used lies inside the text
 pub used-inside : (text : List ℕ) (r : Record) → EachBelow labelPlaces (Placed text r) → (q : ℕ) → q < labelPlaces → ltb q (r .count) ≡ true
-    → startOf r q + lenOf r q ≤ length text
+    → viewOf r q .start + viewOf r q .len ≤ length text
 used-inside text r p q h e = p q h .used (ltb-true q (r .count) e)
 
 pub says-framed : (text b : List ℕ) → Says (framedTest (length text) b) (Framed text b)
@@ -98,7 +108,7 @@ says-good text b =
     says-iff
     (λ w. record { short = w .0; framed = w .1 .0; sound = w .1 .1 })
     (λ g. (g .short, (g .framed, g .sound)))
-    (says-and (says-le (length text) longest) (says-and (says-framed text b) (says-sound (entryOf text (decode b)))))
+    (says-and (says-le (length text) longestText) (says-and (says-framed text b) (says-sound (entryOf text (decode b)))))
 
 -- bytes that are no record are not sound
 pub none-unsound : soundTest noEntry ≡ false
@@ -133,7 +143,7 @@ module _ (text : List ℕ) (r : Record) (few : r .count ≤ labelPlaces) where
   sound-is = rw (count-is, spelled-is (kindAt (r .kind) .dotted)) refl
 
 -- a framed record is good exactly if its fields are as its kind allows and its labels are spelled as labels
-module _ (text b : List ℕ) (short : length text ≤ longest) (f : Framed text b) (r : Record) (er : r ≡ decode b) where
+module _ (text b : List ℕ) (short : length text ≤ longestText) (f : Framed text b) (r : Record) (er : r ≡ decode b) where
   pub says-fields : (fields labels : Bool) → fields ≡ fieldsTest (kindAt (r .kind)) (r .third) (r .count) (r .x) (r .y) → labels ≡ spelledAll text r (kindAt (r .kind) .dotted) → Says (fields && labels) (Good text b)
   says-fields fields labels ef el =
       let few : r .count ≤ labelPlaces = rw er (f .few) in

@@ -2,20 +2,21 @@
 use mathlib.Core.Path.{_≡_, refl, sym, ap, _∙_}
 use mathlib.Core.Bool.{true, false, _&&_}
 use mathlib.Core.List.{List, []}
-use Prim.Native.Nat.{ℕ, _+_, _-_, _≤_, _<_}
+use Prim.Native.Nat.{ℕ, _-_, _≤_, _<_}
 use native.Mathlib.Omega.{arith}
 use lib.Dec.{eqb}
-use lib.ListN.{length}
 use borrow.Author.Tests.{lt-ltb, le-ltb}
 use Rattle.refusal.proofs.Says.{refuted, stable, says-and, says-eq}
+use Rattle.record.specs.Record.{labelPlaces}
+use Rattle.record.specs.Steps.{goodKind, Names}
 use Rattle.record.specs.declared.Record.{Record}
 use Rattle.record.specs.declared.ask.Asked.the-variants as asked
 use Rattle.record.specs.Kinds.{kindAt, angle}
 use Rattle.record.specs.Decode.{decode}
-use Rattle.record.specs.Entry.{startOf, lenOf, entryOf}
-use Rattle.record.specs.Sound.{labelPlaces, Good, goodTest, goodKind}
-use Rattle.record.specs.Formed.{malformed}
-use Rattle.record.specs.Ask.{labelOf, labelFrom, Names, angleIn, angleOf}
+use Rattle.record.specs.Entry.{entryOf, noView, viewOf}
+use Rattle.record.specs.Sound.{Good, goodTest}
+use Rattle.record.specs.Formed.{malformedAt}
+use Rattle.record.specs.Ask.{labelOf, labelFrom, angleIn, angleOf}
 use Rattle.record.proofs.Agree.{says-good, kind-of-bad, kind-of-good}
 
 module _ (text b : List ℕ) where
@@ -30,15 +31,15 @@ module _ (text b : List ℕ) where
   -- ---- labels
 
   module _ (q : ℕ) where
-    empty : labelOf text b q ≡ [] → labelFrom text b q ≡ 0 → Names text b q (record { start = 0; end = 0 })
-    empty e z = record { ordered = omega arith; inside = omega arith; starts = sym z; is = sym e }
+    empty : labelOf text b q ≡ [] → labelFrom text b q ≡ 0 → Names text b q noView
+    empty e z = record { inside = omega arith; starts = sym z; is = sym e }
 
-    pub no-record : (Good text b → ⊥) → Names text b q (record { start = 0; end = 0 })
+    pub no-record : (Good text b → ⊥) → Names text b q noView
     unfolding labelOf labelFrom
     no-record f = empty (rw (refuted (says-good text b) f) refl) (rw (refuted (says-good text b) f) refl)
 
     module _ (g : Good text b) where
-      pub no-label : (r : Record) → r ≡ decode b → r .count ≤ q → Names text b q (record { start = 0; end = 0 })
+      pub no-label : (r : Record) → r ≡ decode b → r .count ≤ q → Names text b q noView
       unfolding labelOf labelFrom
       no-label r e h = empty (rw (says-good text b .back g, le-ltb q (decode b .count) (rw e at h)) refl) (rw (says-good text b .back g, le-ltb q (decode b .count) (rw e at h)) refl)
 
@@ -47,18 +48,13 @@ module _ (text b : List ℕ) where
         pub some-place : q < labelPlaces
         some-place = omega (arith, rw e at h, g .framed .few)
 
-        pub some-inside : startOf r q + lenOf r q ≤ length text
-        some-inside = rw e (g .framed .placed q some-place .used (rw e at h))
-
-        pub some-label : Names text b q (record { start = startOf r q; end = startOf r q + lenOf r q })
+        pub some-label : Names text b q (viewOf r q)
         unfolding labelOf labelFrom
         some-label =
-            let l : startOf r q + lenOf r q - startOf r q ≡ lenOf r q = omega arith in
             record {
-              ordered = omega arith;
-              inside = some-inside;
+              inside = rw e (g .framed .placed q some-place .used (rw e at h));
               starts = rw (says-good text b .back g, lt-ltb q (decode b .count) (rw e at h), e) refl;
-              is = rw (says-good text b .back g, lt-ltb q (decode b .count) (rw e at h), l, e) refl;
+              is = rw (says-good text b .back g, lt-ltb q (decode b .count) (rw e at h), e) refl;
             }
 
   -- ---- angles
@@ -67,7 +63,7 @@ module _ (text b : List ℕ) where
   pub angle-good : kindAt (goodKind text b) .number ≡ angle → Good text b
   angle-good e = good-of-kind (λ z. omega (arith, sym (ap (λ (k : ℕ). kindAt k .number) z) ∙ e))
 
-  pub no-angle : (kindAt (goodKind text b) .number ≡ angle → ⊥) → asked.Refused malformed 0 ≡ angleOf text b
+  pub no-angle : (kindAt (goodKind text b) .number ≡ angle → ⊥) → asked.Refused (malformedAt 0) ≡ angleOf text b
   unfolding angleOf
   no-angle f =
       let r : goodTest text b && eqb (kindAt (decode b .kind) .number) angle ≡ false

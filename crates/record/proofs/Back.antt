@@ -1,16 +1,23 @@
--- Decode after encode is the identity, on a record and on a list of records: each number comes back from its bytes. Assumes nothing.
+-- Decode after encode is the identity, on a record and on a list of records: each view and each number comes back from its bytes. Assumes nothing.
 use mathlib.Core.Path.{_≡_, refl, sym, ap, _∙_}
 use mathlib.Core.Bool.{Bool, true, false, cond}
 use mathlib.Core.List.{List, [], _∷_, _++_, append-nil}
-use Prim.Native.Nat.{ℕ, zero, suc, _+_, _-_, _*_, _/_, _%_, _^_, _≤_, _<_}
+use Prim.Native.Nat.{ℕ, zero, suc, _+_, _-_, _*_, _<_}
 use native.Mathlib.Nat.{not-suc-le-zero}
 use native.Mathlib.Omega.{arith}
+use lib.Dec.{lit<}
 use lib.ListN.{length, getD, take, drop, length-append}
 use lib.Seq.{take-at, drop-at, drop-drop}
 use borrow.Author.Tests.{leb-true, leb-false, lt-ltb}
+use Rattle.refusal.specs.First.{EachBelow}
+use Rattle.bytes.proofs.Little.{number-le}
+use Rattle.bytes.specs.Little.{byte}
+use Rattle.record.specs.Entry.{noView, viewOf}
+use Rattle.record.specs.declared.View.{View}
 use Rattle.record.specs.declared.Record.{Record}
-use Rattle.record.specs.Record.{recordBytes, firstGuess, instruction, guess, encode, encodeAll}
-use Rattle.record.specs.Decode.{isGuess, decode, countOf, recordOf, noRecord, decodeAt, Fits}
+use Rattle.record.specs.Record.{recordBytes, firstGuess, instruction, guess, encode, encodeAll, labelPlaces, encodeView}
+use Rattle.record.specs.Decode.{isGuess, decode, countOf, recordOf, noRecord, decodeAt, Fits, viewAt, placeIn, Short}
+use Rattle.record.proofs.UpTo.{up-to-list, each-place}
 
 -- ---- a record of a list
 
@@ -20,62 +27,52 @@ part-is bs i =
     let e : i * recordBytes + recordBytes - i * recordBytes ≡ recordBytes = omega arith in
     rw e
 
--- ---- numbers
-
-two : (n : ℕ) → n < 2 ^ 16 → n % 256 + n / 256 % 256 * 256 ≡ n
-two n h = omega arith
-
-join : (n a0 a1 a2 a3 a4 a5 a6 a7 q1 q2 q3 q4 q5 q6 q7 : ℕ)
-    → a0 + 256 * q1 ≡ n → a1 + 256 * q2 ≡ q1 → a2 + 256 * q3 ≡ q2 → a3 + 256 * q4 ≡ q3 → a4 + 256 * q5 ≡ q4 → a5 + 256 * q6 ≡ q5 → a6 + 256 * q7 ≡ q6 → a7 ≡ q7
-    → a0 + a1 * 256 + (a2 + a3 * 256) * 2 ^ 16 + (a4 + a5 * 256) * 2 ^ 32 + (a6 + a7 * 256) * 2 ^ 48 ≡ n
-join n a0 a1 a2 a3 a4 a5 a6 a7 q1 q2 q3 q4 q5 q6 q7 e0 e1 e2 e3 e4 e5 e6 e7 = omega arith
-
-eight : (n : ℕ) → n < 2 ^ 64
-    → n % 256 + n / 2 ^ 8 % 256 * 256 + (n / 2 ^ 16 % 256 + n / 2 ^ 24 % 256 * 256) * 2 ^ 16
-    + (n / 2 ^ 32 % 256 + n / 2 ^ 40 % 256 * 256) * 2 ^ 32 + (n / 2 ^ 48 % 256 + n / 2 ^ 56 % 256 * 256) * 2 ^ 48 ≡ n
-eight n h =
-    join n _ _ _ _ _ _ _ _ (n / 2 ^ 8) (n / 2 ^ 16) (n / 2 ^ 24) (n / 2 ^ 32) (n / 2 ^ 40) (n / 2 ^ 48) (n / 2 ^ 56)
-    (omega arith) (omega arith) (omega arith) (omega arith) (omega arith) (omega arith) (omega arith) (omega arith)
-
 -- ---- a record
 
+view-back : (v : View) → Short v → viewAt (encodeView v) 0 ≡ v
+view-back v h i = record { start = number-le 2 (v .start) (h .start-fits) i; len = number-le 2 (v .len) (h .len-fits) i }
+
 module _ (r : Record) (rest : List ℕ) (h : Fits r) where
-  -- the fields of a guess, and of an instruction
+  -- each label place, of a guess and of an instruction
+  place-back : (g : Bool) → isGuess (r .kind) ≡ g → EachBelow labelPlaces (λ q. placeIn (cond g (guess r) (instruction r) ++ rest) q ≡ viewOf r q)
+  place-back true e =
+      let none = h .absent (leb-true firstGuess (r .kind) e) in
+      each-place _ (view-back (viewOf r 0) (h .short 0 (lit< tt)))
+      (rw e (sym (none 1 (lit< tt) (lit< tt))))
+      (rw e (sym (none 2 (lit< tt) (lit< tt))))
+      (rw e (sym (none 3 (lit< tt) (lit< tt))))
+  place-back false e =
+      each-place _ (view-back (viewOf r 0) (h .short 0 (lit< tt)))
+      (rw e (view-back (viewOf r 1) (h .short 1 (lit< tt))))
+      (rw e (view-back (viewOf r 2) (h .short 2 (lit< tt))))
+      (rw e (view-back (viewOf r 3) (h .short 3 (lit< tt))))
+
+  -- the numbers
+  x-back : (g : Bool) → isGuess (r .kind) ≡ g → decode (cond g (guess r) (instruction r) ++ rest) .x ≡ r .x
+  unfolding decode
+  x-back true e = rw e (number-le 8 (r .x) (h .x-fits))
+  x-back false e = rw e (number-le 8 (r .x) (h .x-fits))
+
+  y-back : (g : Bool) → isGuess (r .kind) ≡ g → decode (cond g (guess r) (instruction r) ++ rest) .y ≡ r .y
+  unfolding decode
+  y-back true e = rw e (number-le 8 (r .y) (h .y-fits))
+  y-back false e = rw e (sym (h .no-y (leb-false firstGuess (r .kind) e)))
+
   fields-back : (g : Bool) → isGuess (r .kind) ≡ g → decode (cond g (guess r) (instruction r) ++ rest) ≡ r
   unfolding decode
-  fields-back true e =
-      let k : firstGuess ≤ r .kind = leb-true firstGuess (r .kind) e in
-      rw e (λ i. record {
-        kind = r .kind;
-        third = r .third;
-        count = r .count;
-        start0 = two (r .start0) (h .label0 .start-fits) i;
-        len0 = two (r .len0) (h .label0 .len-fits) i;
-        start1 = sym (h .absent1 k .no-start) i;
-        len1 = sym (h .absent1 k .no-len) i;
-        start2 = sym (h .absent2 k .no-start) i;
-        len2 = sym (h .absent2 k .no-len) i;
-        start3 = sym (h .absent3 k .no-start) i;
-        len3 = sym (h .absent3 k .no-len) i;
-        x = eight (r .x) (h .x-fits) i;
-        y = eight (r .y) (h .y-fits) i;
-      })
-  fields-back false e =
-      rw e (λ i. record {
-        kind = r .kind;
-        third = r .third;
-        count = r .count;
-        start0 = two (r .start0) (h .label0 .start-fits) i;
-        len0 = two (r .len0) (h .label0 .len-fits) i;
-        start1 = two (r .start1) (h .label1 .start-fits) i;
-        len1 = two (r .len1) (h .label1 .len-fits) i;
-        start2 = two (r .start2) (h .label2 .start-fits) i;
-        len2 = two (r .len2) (h .label2 .len-fits) i;
-        start3 = two (r .start3) (h .label3 .start-fits) i;
-        len3 = two (r .len3) (h .label3 .len-fits) i;
-        x = eight (r .x) (h .x-fits) i;
-        y = sym (h .no-y (leb-false firstGuess (r .kind) e)) i;
-      })
+  fields-back g e i =
+      record {
+        kind = head g .0 i;
+        third = head g .1 i;
+        count = head g .2 i;
+        labels = up-to-list labelPlaces (r .labels) noView _ (h .places) (place-back g e) i;
+        x = x-back g e i;
+        y = y-back g e i;
+      }
+    where
+      head : (g : Bool) → let b = cond g (guess r) (instruction r) ++ rest in (byte b 1 ≡ r .kind) × (byte b 2 ≡ r .third) × (byte b 3 ≡ r .count)
+      head true = (refl, refl, refl)
+      head false = (refl, refl, refl)
 
   pub decode-encode : decode (encode r ++ rest) ≡ r
   unfolding encode

@@ -13,11 +13,12 @@ use Rattle.refusal.specs.First.{EachBelow}
 use Rattle.refusal.proofs.Says.{fails, refuted, says-and, says-le}
 use Rattle.refusal.proofs.Search.{stops-here, goes-through}
 use Rattle.record.specs.declared.formed.Formed.the-variants as formed
-use Rattle.record.specs.Record.{recordBytes}
+use Rattle.record.specs.Steps.{goodKind, misplaced}
+use Rattle.record.specs.Record.{recordBytes, mostRecords, longestText}
 use Rattle.record.specs.Decode.{decode, countOf, recordOf}
 use Rattle.record.specs.Entry.{Entry, noEntry, entryAt, upTo, entryOf}
-use Rattle.record.specs.Sound.{longest, Good, framedTest, soundTest, goodTest, goodKind}
-use Rattle.record.specs.Formed.{most, malformed, entry, entries, places, anyGuess, faultTest, misplaced, malformedTest, verdict, formedOf}
+use Rattle.record.specs.Sound.{Good, framedTest, soundTest, goodTest}
+use Rattle.record.specs.Formed.{malformedAt, entry, entries, places, anyGuess, faultTest, malformedTest, verdict, formedOf}
 use Rattle.record.proofs.UpTo.{length-up-to, getD-up-to}
 use Rattle.record.proofs.Agree.{says-framed, says-good, none-unsound, kind-of-bad, kind-of-good}
 
@@ -37,11 +38,11 @@ good-some : (text b : List ℕ) → Good text b → goodKind text b ≡ 0 → �
 unfolding entryOf
 good-some text b g e = omega (arith, g .sound .known .0, kind-of-good text b g ∙ e)
 
-module _ (text b : List ℕ) (short : length text ≤ longest) where
+module _ (text b : List ℕ) (short : length text ≤ longestText) where
   -- the entry is sound exactly if the record is good
   pub entry-sound : soundTest (entry text b) ≡ goodTest text b
   unfolding entry goodTest
-  entry-sound = rw (le-leb (length text) longest short) (go (framedTest (length text) b))
+  entry-sound = rw (le-leb (length text) longestText short) (go (framedTest (length text) b))
     where
       go : (f : Bool) → soundTest (cond f (entryOf text (decode b)) noEntry) ≡ f && soundTest (entryOf text (decode b))
       go true = refl
@@ -61,7 +62,7 @@ module _ (text b : List ℕ) (short : length text ≤ longest) where
 -- ---- what is told of a list
 
 module _ (es : List Entry) where
-  pub told-at : (i : ℕ) → i < places es → malformedTest es i ≡ true → EachBelow i (λ j. malformedTest es j ≡ false) → formed.Refused malformed i ≡ formedOf es
+  pub told-at : (i : ℕ) → i < places es → malformedTest es i ≡ true → EachBelow i (λ j. malformedTest es j ≡ false) → formed.Refused (malformedAt i) ≡ formedOf es
   unfolding formedOf
   told-at i h e f = sym (ap verdict (stops-here (malformedTest es) (places es) i h e f))
 
@@ -85,18 +86,18 @@ module _ (es : List Entry) where
 
 -- ---- the list
 
-short-list : (text bs : List ℕ) → (leb (length text) longest && leb (countOf bs) most) ≡ false → entries text bs ≡ noEntry ∷ []
+short-list : (text bs : List ℕ) → (leb (length text) longestText && leb (countOf bs) mostRecords) ≡ false → entries text bs ≡ noEntry ∷ []
 unfolding entries
 short-list text bs e = rw e refl
 
 -- a text or a list over its limit is told at 0
-pub over : (text bs : List ℕ) → (length text ≤ longest → countOf bs ≤ most → ⊥) → formed.Refused malformed 0 ≡ formedOf (entries text bs)
-over text bs h = rw (short-list text bs (refuted (says-and (says-le (length text) longest) (says-le (countOf bs) most)) (λ w. h (w .0) (w .1)))) told
+pub over : (text bs : List ℕ) → (length text ≤ longestText → countOf bs ≤ mostRecords → ⊥) → formed.Refused (malformedAt 0) ≡ formedOf (entries text bs)
+over text bs h = rw (short-list text bs (refuted (says-and (says-le (length text) longestText) (says-le (countOf bs) mostRecords)) (λ w. h (w .0) (w .1)))) told
   where
-    told : formed.Refused malformed 0 ≡ formedOf (noEntry ∷ [])
+    told : formed.Refused (malformedAt 0) ≡ formedOf (noEntry ∷ [])
     told = told-at (noEntry ∷ []) 0 (omega arith) (inside-is (noEntry ∷ []) 0 (omega arith) ∙ rw none-unsound refl) (λ j h. absurd (not-suc-le-zero h))
 
-module _ (text bs : List ℕ) (short : length text ≤ longest) (few : countOf bs ≤ most) where
+module _ (text bs : List ℕ) (short : length text ≤ longestText) (few : countOf bs ≤ mostRecords) where
   front : List Entry
   front = upTo (countOf bs) (λ i. entry text (recordOf bs i))
 
@@ -105,7 +106,7 @@ module _ (text bs : List ℕ) (short : length text ≤ longest) (few : countOf b
 
   list-is : entries text bs ≡ front ++ rest
   unfolding entries front rest
-  list-is = rw (le-leb (length text) longest short, le-leb (countOf bs) most few) refl
+  list-is = rw (le-leb (length text) longestText short, le-leb (countOf bs) mostRecords few) refl
 
   front-length : length front ≡ countOf bs
   unfolding front

@@ -7,17 +7,18 @@ use lib.Ieee.{binary64, ofBits}
 use Rattle.ground.specs.Words.{bytes}
 use Rattle.refusal.specs.First.{lowest}
 use Rattle.text.specs.Text.{runTo, wordAt, byteOn, labelAt, labelOn, suffixedOn}
+use Rattle.record.specs.declared.View.{View}
 use Rattle.record.specs.declared.Record.{Record}
 use Rattle.record.specs.declared.formed.Formed.{Formed}
 use Rattle.record.specs.declared.formed.Formed.the-variants.{WellFormed, Refused}
 use Rattle.record.specs.declared.ask.Asked.{Asked}
 use Rattle.record.specs.declared.ask.Asked.the-variants as asked
 use Rattle.record.specs.declared.ask.Angle.the-variants.{Degrees, Radians}
-use Rattle.record.specs.Record.{encode, encodeAll}
+use Rattle.record.specs.Record.{encode, encodeAll, oneLabel}
 use Rattle.record.specs.Decode.{decode}
 use Rattle.record.specs.Entry.{Label, entryOf}
 use Rattle.record.specs.Sound.{spelledTest, framedTest, soundTest, goodTest}
-use Rattle.record.specs.Formed.{entry, entries, malformedTest, formedOf}
+use Rattle.record.specs.Formed.{entry, entries, malformedTest, formedOf, malformedAt}
 use Rattle.record.specs.Ask.{labelOf, angleOf}
 
 -- ---- a text and records over it
@@ -25,10 +26,13 @@ use Rattle.record.specs.Ask.{labelOf, angleOf}
 abbrev text : List ℕ
 text = bytes "p cc.center a.b.c"
 
+-- a part of it
+abbrev view : ℕ → ℕ → View
+view start len = record { start = start; len = len }
+
 -- a record with one label
 abbrev one : ℕ → ℕ → ℕ → ℕ → ℕ → ℕ → Record
-one kind third start len x y =
-    record { kind = kind; third = third; count = 1; start0 = start; len0 = len; start1 = 0; len1 = 0; start2 = 0; len2 = 0; start3 = 0; len3 = 0; x = x; y = y }
+one kind third start len x y = oneLabel kind third (view start len) x y
 
 -- `point p`, and a guess of p
 abbrev point : Record
@@ -40,7 +44,7 @@ guess = one 24 0 0 1 5 7
 -- an angle over p, cc, p and p
 abbrev angle : ℕ → Record
 angle third =
-    record { kind = 10; third = third; count = 4; start0 = 0; len0 = 1; start1 = 2; len1 = 2; start2 = 0; len2 = 1; start3 = 0; len3 = 1; x = 7; y = 0 }
+    record { kind = 10; third = third; count = 4; labels = view 0 1 ∷ view 2 2 ∷ view 0 1 ∷ view 0 1 ∷ []; x = 7; y = 0 }
 
 -- ---- lists
 
@@ -79,21 +83,21 @@ abbrev expected : List Formed
 expected =
     WellFormed
     ∷ WellFormed
-    ∷ Refused 30 0
-    ∷ Refused 30 1
-    ∷ Refused 30 1
-    ∷ Refused 30 1
+    ∷ Refused (malformedAt 0)
+    ∷ Refused (malformedAt 1)
+    ∷ Refused (malformedAt 1)
+    ∷ Refused (malformedAt 1)
     ∷ WellFormed
-    ∷ Refused 30 0
-    ∷ Refused 30 0
-    ∷ Refused 30 0
-    ∷ Refused 30 1
-    ∷ Refused 30 1
-    ∷ Refused 30 0
-    ∷ Refused 30 0
-    ∷ Refused 30 2
-    ∷ Refused 30 2
-    ∷ Refused 30 2
+    ∷ Refused (malformedAt 0)
+    ∷ Refused (malformedAt 0)
+    ∷ Refused (malformedAt 0)
+    ∷ Refused (malformedAt 1)
+    ∷ Refused (malformedAt 1)
+    ∷ Refused (malformedAt 0)
+    ∷ Refused (malformedAt 0)
+    ∷ Refused (malformedAt 2)
+    ∷ Refused (malformedAt 2)
+    ∷ Refused (malformedAt 2)
     ∷ []
 
 -- ---- what is asked
@@ -109,6 +113,6 @@ angles = angleOf text (encode (angle 1)) ∷ angleOf text (encode (angle 2)) ∷
 pub examples :
     (answers ≡ expected)
     × (labels ≡ bytes "cc" ∷ bytes "cc.center" ∷ [] ∷ [] ∷ [])
-    × (angles ≡ asked.Angle (Degrees (ofBits binary64 7)) ∷ asked.Angle (Radians (ofBits binary64 7)) ∷ asked.Refused 30 0 ∷ [])
+    × (angles ≡ asked.Angle (Degrees (ofBits binary64 7)) ∷ asked.Angle (Radians (ofBits binary64 7)) ∷ asked.Refused (malformedAt 0) ∷ [])
 unfolding encode encodeAll decode entryOf runTo wordAt byteOn labelAt labelOn suffixedOn spelledTest framedTest soundTest goodTest entry entries malformedTest lowest formedOf labelOf angleOf
 examples = (refl, refl, refl)

@@ -6,6 +6,10 @@ use borrow.Fn.Kinds.{Dens, resT, endedOf}
 use denote.Triple.Clauses.{AtExit}
 use denote.Ref.{now, ptr}
 use Rattle.ground.proofs.Determined.{Determined, by-equation}
+use Rattle.record.proofs.one_label.Kinds as one-label-kinds
+use Rattle.record.proofs.one_label.Reads as one-label
+use Rattle.record.proofs.no_record.Kinds as no-record-kinds
+use Rattle.record.proofs.no_record.Reads as no-record
 use Rattle.record.proofs.encode_record.Kinds as encode-record-kinds
 use Rattle.record.proofs.encode_record.Reads as encode-record
 use Rattle.record.proofs.kinds.look.Kinds as look-kinds
@@ -22,6 +26,12 @@ use Rattle.record.proofs.ask.label.Kinds as label-kinds
 use Rattle.record.proofs.ask.label.Reads as label
 use Rattle.record.proofs.ask.angle_of.Kinds as angle-of-kinds
 use Rattle.record.proofs.ask.angle_of.Reads as angle-of
+
+pub one-label-only : Determined 0 one-label-kinds.ps one-label-kinds.r one-label.Post
+one-label-only κs a x y e f p q = by-equation p q
+
+pub no-record-only : Determined 0 no-record-kinds.ps no-record-kinds.r no-record.Post
+no-record-only κs a x y e f p q = by-equation p q
 
 pub encode-record-only : Determined 0 encode-record-kinds.ps encode-record-kinds.r encode-record.Post
 encode-record-only κs a x y e f p q = by-equation p q

@@ -14,11 +14,12 @@ use borrow.Author.Tests.{eqb-true, eqb-false}
 use Rattle.refusal.specs.First.{EachBelow}
 use Rattle.refusal.proofs.Says.{stable, below-suc}
 use Rattle.record.specs.declared.formed.Formed.the-variants as formed
-use Rattle.record.specs.Record.{recordBytes}
+use Rattle.record.specs.Steps.{goodKind, misplaced}
+use Rattle.record.specs.Record.{recordBytes, mostRecords, longestText}
 use Rattle.record.specs.Decode.{isGuess, countOf, recordOf}
 use Rattle.record.specs.Entry.{Entry, noEntry, entryAt}
-use Rattle.record.specs.Sound.{longest, Good, goodKind}
-use Rattle.record.specs.Formed.{most, malformed, entries, anyGuess, faultTest, misplaced, malformedTest, formedOf}
+use Rattle.record.specs.Sound.{Good}
+use Rattle.record.specs.Formed.{malformedAt, entries, anyGuess, faultTest, malformedTest, formedOf}
 use Rattle.record.proofs.Agree.{says-good, none-unsound, kind-of-bad}
 use Rattle.record.proofs.Entries.{entry-kind, misplaced-is, told-at, none-told, inside-is, last-is, entry-at, whole-length, piece-length, piece-none, count-le}
 
@@ -35,7 +36,7 @@ good-of : (text b : List ℕ) (i : ℕ) (guessed : Bool) → misplaced (goodKind
 good-of text b i guessed e =
     stable (says-good text b) (λ f. true≢false (sym (ap (λ (k : ℕ). misplaced k i guessed) (sym (kind-of-bad text b f))) ∙ e))
 
-module _ (text bs : List ℕ) (short : length text ≤ longest) (few : countOf bs ≤ most) (i : ℕ) (guessed : Bool) (p : Passed (entries text bs) i guessed) where
+module _ (text bs : List ℕ) (short : length text ≤ longestText) (few : countOf bs ≤ mostRecords) (i : ℕ) (guessed : Bool) (p : Passed (entries text bs) i guessed) where
   module _ (h : i < countOf bs) (kind : ℕ) (k : kind ≡ goodKind text (recordOf bs i)) where
     -- the test of the place is that of the kind
     here-is : malformedTest (entries text bs) i ≡ misplaced kind i guessed
@@ -45,7 +46,7 @@ module _ (text bs : List ℕ) (short : length text ≤ longest) (few : countOf b
         ∙ sym (misplaced-is text (recordOf bs i) short i (anyGuess (entries text bs) i))
         ∙ rw (k, p .seen) refl
 
-    pub fault : misplaced kind i guessed ≡ true → formed.Refused malformed i ≡ formedOf (entries text bs)
+    pub fault : misplaced kind i guessed ≡ true → formed.Refused (malformedAt i) ≡ formedOf (entries text bs)
     fault e = told-at (entries text bs) i (omega (arith, count-le text bs short few, h)) (here-is ∙ e) (p .each)
 
     pub more : misplaced kind i guessed ≡ false → Passed (entries text bs) (i + 1) (guessed || isGuess kind)
@@ -76,8 +77,8 @@ module _ (text bs : List ℕ) (short : length text ≤ longest) (few : countOf b
         go true e = end-whole (eqb-true (length bs % recordBytes) 0 e)
         go false e = end-piece (eqb-false (length bs % recordBytes) 0 e)
 
-    pub end-fault : (not (eqb (length bs % recordBytes) 0) || not guessed) ≡ true → formed.Refused malformed (countOf bs) ≡ formedOf (entries text bs)
-    end-fault e = ap (formed.Refused malformed) (sym n) ∙ told-at (entries text bs) i (omega (arith, count-le text bs short few, n)) (end-is ∙ e) (p .each)
+    pub end-fault : (not (eqb (length bs % recordBytes) 0) || not guessed) ≡ true → formed.Refused (malformedAt (countOf bs)) ≡ formedOf (entries text bs)
+    end-fault e = ap (λ (k : ℕ). formed.Refused (malformedAt k)) (sym n) ∙ told-at (entries text bs) i (omega (arith, count-le text bs short few, n)) (end-is ∙ e) (p .each)
 
     pub end-good : (not (eqb (length bs % recordBytes) 0) || not guessed) ≡ false → formed.WellFormed ≡ formedOf (entries text bs)
     end-good e = none-told (entries text bs) (go (eqb (length bs % recordBytes) 0) refl e)

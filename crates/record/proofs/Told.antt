@@ -9,12 +9,13 @@ use lib.ListN.{length}
 use Rattle.refusal.specs.First.{SomeBelow, Lowest, Nowhere, lowest}
 use Rattle.refusal.proofs.Says.{Says, says-and, says-or, says-not, says-iff, says-eq, says-le, says-lt, says-any}
 use Rattle.refusal.proofs.Search.{lowest-iff, none-iff}
+use Rattle.refusal.specs.declared.Refusal.{Refusal}
 use Rattle.record.specs.declared.formed.Formed.the-variants as formed
 use Rattle.record.specs.Record.{firstGuess}
 use Rattle.record.specs.Decode.{isGuess}
 use Rattle.record.specs.Entry.{Entry, entryAt}
 use Rattle.record.specs.Sound.{Sound}
-use Rattle.record.specs.Formed.{malformed, Guess, Malformed, unsound, guess-first, after-guess, no-guess, places, malformedTest, verdict, formedOf}
+use Rattle.record.specs.Formed.{malformedAt, GuessEntry, Malformed, unsound, guess-first, after-guess, no-guess, places, malformedTest, verdict, formedOf}
 use Rattle.record.proofs.Agree.{says-sound}
 
 -- ---- a place at fault
@@ -23,8 +24,8 @@ use Rattle.record.proofs.Agree.{says-sound}
 abbrev Cases : List Entry → ℕ → Type 0
 Cases es i =
     ((i < length es)
-    × ((Sound (entryAt es i) → ⊥) ⊎ (((i ≡ 0) × Guess (entryAt es i)) ⊎ ((Guess (entryAt es i) → ⊥) × SomeBelow i (λ j. Guess (entryAt es j))))))
-    ⊎ ((i ≡ length es) × (SomeBelow i (λ j. Guess (entryAt es j)) → ⊥))
+    × ((Sound (entryAt es i) → ⊥) ⊎ (((i ≡ 0) × GuessEntry (entryAt es i)) ⊎ ((GuessEntry (entryAt es i) → ⊥) × SomeBelow i (λ j. GuessEntry (entryAt es j))))))
+    ⊎ ((i ≡ length es) × (SomeBelow i (λ j. GuessEntry (entryAt es j)) → ⊥))
 
 of-cases : (es : List Entry) (i : ℕ) → Cases es i → Malformed es i
 of-cases es i (inl (h, inl f)) = unsound h f
@@ -38,8 +39,10 @@ to-cases es i (guess-first h z g) = inl (h, inr (inl (z, g)))
 to-cases es i (after-guess h n s) = inl (h, inr (inr (n, s)))
 to-cases es i (no-guess e f) = inr (e, f)
 
-place-of : (o : Option ℕ) (i : ℕ) → verdict o ≡ formed.Refused malformed i → o ≡ some i
-place-of (some j) i e = cc
+place-of : (o : Option ℕ) (i : ℕ) → verdict o ≡ formed.Refused (malformedAt i) → o ≡ some i
+place-of (some j) i e =
+    let m : malformedAt j ≡ malformedAt i = cc in
+    ap (λ (r : Refusal). some (r .place)) m
 place-of none i e = cc
 
 none-of : (o : Option ℕ) → verdict o ≡ formed.WellFormed → o ≡ none
@@ -47,7 +50,7 @@ none-of (some j) e = cc
 none-of none e = refl
 
 module _ (es : List Entry) where
-  pub says-guess : (i : ℕ) → Says (isGuess (entryAt es i .kind)) (Guess (entryAt es i))
+  pub says-guess : (i : ℕ) → Says (isGuess (entryAt es i .kind)) (GuessEntry (entryAt es i))
   says-guess i = says-le firstGuess (entryAt es i .kind)
 
   pub says-malformed : (i : ℕ) → Says (malformedTest es i) (Malformed es i)
@@ -61,7 +64,7 @@ module _ (es : List Entry) where
       (says-and (says-eq i (length es)) (says-not (says-any _ _ says-guess i))))
 
   -- 30 is told at i exactly if the list is at fault there and at no lower place
-  pub refused-iff : (i : ℕ) → (formedOf es ≡ formed.Refused malformed i) ↔ Lowest (Malformed es) (places es) i
+  pub refused-iff : (i : ℕ) → (formedOf es ≡ formed.Refused (malformedAt i)) ↔ Lowest (Malformed es) (places es) i
   unfolding formedOf
   refused-iff i =
       let l = lowest-iff (malformedTest es) (Malformed es) says-malformed (places es) i in

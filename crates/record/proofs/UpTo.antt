@@ -1,8 +1,13 @@
--- The laws of the list f 0, f 1, .., up to a count: its length, and what stands at a place. Assumes nothing.
-use mathlib.Core.Path.{_≡_, refl, ap}
+-- The laws of the list f 0, f 1, .., up to a count: its length, what stands at a place, and which lists are such a list. And what holds of each
+-- label place of a record. Assumes nothing.
+use mathlib.Core.Path.{_≡_, refl, ap, _∙_, subst}
+use mathlib.Core.List.{List, [], _∷_, map}
 use Prim.Native.Nat.{ℕ, zero, suc, _<_}
 use native.Mathlib.Nat.{le-of-suc-le-suc, not-suc-le-zero}
+use native.Mathlib.Omega.{arith}
 use lib.ListN.{length, getD}
+use Rattle.refusal.specs.First.{EachBelow}
+use Rattle.record.specs.Record.{labelPlaces}
 use Rattle.record.specs.Entry.{upTo}
 
 module _ {A : Type 0} where
@@ -14,3 +19,30 @@ module _ {A : Type 0} where
   getD-up-to zero f i d h = absurd (not-suc-le-zero h)
   getD-up-to (suc n) f zero d h = refl
   getD-up-to (suc n) f (suc i) d h = getD-up-to n (λ k. f (suc k)) i d (le-of-suc-le-suc h)
+
+  -- the same at each place below a count
+  pub up-to-same : (n : ℕ) (f g : ℕ → A) → EachBelow n (λ i. f i ≡ g i) → upTo n f ≡ upTo n g
+  up-to-same zero f g h = refl
+  up-to-same (suc n) f g h =
+      rw (h zero (omega arith)) (ap (λ (l : List A). g zero ∷ l) (up-to-same n (λ k. f (suc k)) (λ k. g (suc k)) (λ i b. h (suc i) (omega arith))))
+
+  -- what g makes of each element of a list, by its place
+  pub up-to-map : {B : Type 0} (xs : List A) (d : A) (g : A → B) → upTo (length xs) (λ i. g (getD xs i d)) ≡ map g xs
+  up-to-map [] d g = refl
+  up-to-map {B} (x ∷ xs) d g = ap (λ (l : List B). g x ∷ l) (up-to-map xs d g)
+
+  -- a list by what stands at its places
+  pub up-to-list : (n : ℕ) (l : List A) (d : A) (f : ℕ → A) → length l ≡ n → EachBelow n (λ q. f q ≡ getD l q d) → upTo n f ≡ l
+  up-to-list n l d f e h = up-to-same n f (λ q. getD l q d) h ∙ subst (λ (m : ℕ). upTo m (λ q. getD l q d) ≡ l) e (places l d)
+    where
+      places : (xs : List A) (d : A) → upTo (length xs) (λ q. getD xs q d) ≡ xs
+      places [] d = refl
+      places (x ∷ xs) d = ap (λ (t : List A). x ∷ t) (places xs d)
+
+-- the label places one by one
+pub each-place : (P : ℕ → Type 0) → P 0 → P 1 → P 2 → P 3 → EachBelow labelPlaces P
+each-place P a b c d zero h = a
+each-place P a b c d (suc zero) h = b
+each-place P a b c d (suc (suc zero)) h = c
+each-place P a b c d (suc (suc (suc zero))) h = d
+each-place P a b c d (suc (suc (suc (suc q)))) h = absurd (omega arith)

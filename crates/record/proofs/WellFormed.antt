@@ -12,11 +12,11 @@ use Rattle.refusal.specs.First.{EachBelow, Lowest, Nowhere}
 use Rattle.refusal.proofs.Says.{fails, stable, says-and, says-eq, says-le, says-any}
 use Rattle.refusal.proofs.Search.{lowest-of}
 use Rattle.record.specs.declared.formed.Formed.the-variants as formed
-use Rattle.record.specs.Record.{recordBytes}
+use Rattle.record.specs.Record.{recordBytes, mostRecords, longestText}
 use Rattle.record.specs.Decode.{decode, countOf, recordOf}
 use Rattle.record.specs.Entry.{Entry, noEntry, entryAt}
-use Rattle.record.specs.Sound.{longest, Sound, Good}
-use Rattle.record.specs.Formed.{most, malformed, GuessOf, Parted, WellFormed, entry, entries, Guess, Malformed, unsound, guess-first, after-guess, no-guess, places, formedOf}
+use Rattle.record.specs.Sound.{Sound, Good}
+use Rattle.record.specs.Formed.{malformedAt, GuessOf, Parted, WellFormed, entry, entries, GuessEntry, Malformed, unsound, guess-first, after-guess, no-guess, places, formedOf}
 use Rattle.record.proofs.Agree.{says-sound, says-good, none-unsound, kind-of-good}
 use Rattle.record.proofs.Entries.{over, entry-kind, entry-sound, entry-at, whole-length, piece-length, piece-none}
 use Rattle.record.proofs.Told.{says-guess, passed-iff}
@@ -24,7 +24,7 @@ use Rattle.record.proofs.Told.{says-guess, passed-iff}
 module _ (text bs : List ℕ) where
   -- ---- entries and records
 
-  module _ (short : length text ≤ longest) (few : countOf bs ≤ most) where
+  module _ (short : length text ≤ longestText) (few : countOf bs ≤ mostRecords) where
     -- an entry is sound exactly if its record is good
     sound-good : (i : ℕ) → i < countOf bs → Sound (entryAt (entries text bs) i) → Good text (recordOf bs i)
     sound-good i h s = says-good text (recordOf bs i) .so (sym (entry-sound text (recordOf bs i) short) ∙ says-sound (entry text (recordOf bs i)) .back (rw (entry-at text bs short few i h) at s))
@@ -37,10 +37,10 @@ module _ (text bs : List ℕ) where
     kind-at i h g =
         ap (λ (e : Entry). e .kind) (entry-at text bs short few i h) ∙ entry-kind text (recordOf bs i) g ∙ sym (kind-of-good text (recordOf bs i) g)
 
-    guess-of : (i : ℕ) → i < countOf bs → Good text (recordOf bs i) → Guess (entryAt (entries text bs) i) → GuessOf bs i
+    guess-of : (i : ℕ) → i < countOf bs → Good text (recordOf bs i) → GuessEntry (entryAt (entries text bs) i) → GuessOf bs i
     guess-of i h g k = rw (kind-at i h g) at k
 
-    of-guess : (i : ℕ) → i < countOf bs → Good text (recordOf bs i) → GuessOf bs i → Guess (entryAt (entries text bs) i)
+    of-guess : (i : ℕ) → i < countOf bs → Good text (recordOf bs i) → GuessOf bs i → GuessEntry (entryAt (entries text bs) i)
     of-guess i h g k = rw (kind-at i h g) k
 
   -- ---- a list that passes is well formed
@@ -49,10 +49,10 @@ module _ (text bs : List ℕ) where
     never : Nowhere (Malformed (entries text bs)) (places (entries text bs))
     never = passed-iff (entries text bs) .0 e
 
-    limits : (length text ≤ longest) × (countOf bs ≤ most)
-    limits = stable (says-and (says-le (length text) longest) (says-le (countOf bs) most)) (λ f. told (over text bs (λ s w. f (s, w))))
+    limits : (length text ≤ longestText) × (countOf bs ≤ mostRecords)
+    limits = stable (says-and (says-le (length text) longestText) (says-le (countOf bs) mostRecords)) (λ f. told (over text bs (λ s w. f (s, w))))
       where
-        told : formed.Refused malformed 0 ≡ formedOf (entries text bs) → ⊥
+        told : formed.Refused (malformedAt 0) ≡ formedOf (entries text bs) → ⊥
         told r = let z : _≡_ {A = ℕ} 0 1 = cc in omega arith
 
     is-whole : length bs % recordBytes ≡ 0
@@ -72,7 +72,7 @@ module _ (text bs : List ℕ) where
         (λ f. never i (omega (arith, h, all-whole)) (unsound (omega (arith, h, all-whole)) (λ s. f (sound-good (limits .0) (limits .1) i h s))))
 
     -- the first guess
-    first-guess : (k : ℕ) × Lowest (λ i. Guess (entryAt (entries text bs) i)) (length (entries text bs)) k
+    first-guess : (k : ℕ) × Lowest (λ i. GuessEntry (entryAt (entries text bs) i)) (length (entries text bs)) k
     first-guess =
         lowest-of _ _ (says-guess (entries text bs)) (length (entries text bs))
         (stable (says-any _ _ (says-guess (entries text bs)) (length (entries text bs))) (λ f. never (length (entries text bs)) (omega arith) (no-guess refl f)))
@@ -96,10 +96,10 @@ module _ (text bs : List ℕ) where
           behind = λ i h b. guess-of (limits .0) (limits .1) i b (each-good i b) (later k (l .here) i h (omega (arith, b, n)));
         }
       where
-        later : (k : ℕ) → Guess (entryAt (entries text bs) k) → (i : ℕ) → k ≤ i → i < length (entries text bs) → Guess (entryAt (entries text bs) i)
+        later : (k : ℕ) → GuessEntry (entryAt (entries text bs) k) → (i : ℕ) → k ≤ i → i < length (entries text bs) → GuessEntry (entryAt (entries text bs) i)
         later k g i h b =
             ⊎-elim
-            (λ q. subst (λ (j : ℕ). Guess (entryAt (entries text bs) j)) q g)
+            (λ q. subst (λ (j : ℕ). GuessEntry (entryAt (entries text bs) j)) q g)
             (λ m. stable (says-guess (entries text bs) i) (λ f. never i (omega (arith, b)) (after-guess b f (k, m, g))))
             (eq-or-lt-of-le h)
 
@@ -115,10 +115,10 @@ module _ (text bs : List ℕ) where
         n : length (entries text bs) ≡ countOf bs
         n = whole-length text bs (w .short) (w .few) (w .whole)
 
-        inside : (j : ℕ) → j < countOf bs → Guess (entryAt (entries text bs) j) → GuessOf bs j
+        inside : (j : ℕ) → j < countOf bs → GuessEntry (entryAt (entries text bs) j) → GuessOf bs j
         inside j h = guess-of (w .short) (w .few) j h (w .each j h)
 
-        outside : (j : ℕ) → w .parted .guesses ≤ j → j < countOf bs → Guess (entryAt (entries text bs) j)
+        outside : (j : ℕ) → w .parted .guesses ≤ j → j < countOf bs → GuessEntry (entryAt (entries text bs) j)
         outside j h b = of-guess (w .short) (w .few) j b (w .each j b) (w .parted .behind j h b)
 
         go : Malformed (entries text bs) i → ⊥

@@ -9,11 +9,12 @@ use lib.ListN.{length}
 use borrow.Author.Tests.{le-leb, lt-ltb}
 use Rattle.refusal.specs.First.{EachBelow, allBelow}
 use Rattle.refusal.proofs.Says.{says-eq, says-all}
+use Rattle.bytes.specs.Little.{byte}
 use Rattle.record.specs.declared.Record.{Record}
-use Rattle.record.specs.Record.{mark, firstGuess, instruction, guess, encode}
-use Rattle.record.specs.Decode.{byte, isGuess, decode, countOf, recordOf, decodeAt, Fits}
+use Rattle.record.specs.Record.{mark, firstGuess, instruction, guess, encode, labelPlaces, longestText}
+use Rattle.record.specs.Decode.{isGuess, decode, countOf, recordOf, decodeAt, Fits}
 use Rattle.record.specs.Entry.{entryAt, entryOf}
-use Rattle.record.specs.Sound.{longest, labelPlaces, guessEnd, guessZeros, Placed, Sound, Good}
+use Rattle.record.specs.Sound.{guessEnd, guessZeros, Placed, Sound, Good}
 use Rattle.record.specs.Formed.{WellFormed, entries}
 use Rattle.record.proofs.Back.{length-encode, decode-encode}
 use Rattle.record.proofs.Entries.{entry-good, entry-at}
@@ -41,7 +42,7 @@ module _ (text : List ℕ) (r : Record) (fits : Fits r) where
       zeros : allBelow guessZeros (λ k. eqb (byte (guess r) (guessEnd + k)) 0) ≡ true
       zeros = refl
 
-  pub good-written : length text ≤ longest → r .count ≤ labelPlaces → EachBelow labelPlaces (Placed text r) → Sound (entryOf text r) → Good text (encode r)
+  pub good-written : length text ≤ longestText → r .count ≤ labelPlaces → EachBelow labelPlaces (Placed text r) → Sound (entryOf text r) → Good text (encode r)
   good-written short few placed sound =
       record {
         short = short;

@@ -1,22 +1,19 @@
 -- What asking a record for a label or an angle gives back (docs/FORMAT.md, "Record"). The record is judged by itself.
-use mathlib.Core.Path.{_≡_}
 use mathlib.Core.Bool.{cond, _&&_}
 use mathlib.Core.List.{List, []}
-use Prim.Native.Nat.{ℕ, _-_, _≤_}
+use Prim.Native.Nat.{ℕ}
 use lib.Dec.{ltb, eqb}
-use lib.ListN.{length}
 use lib.Ieee.{binary64, ofBits}
 use Rattle.record.specs.declared.Record.{Record}
-use Rattle.record.specs.declared.ask.Part.{Part}
 use Rattle.record.specs.declared.ask.Angle.{Angle}
 use Rattle.record.specs.declared.ask.Angle.the-variants.{Degrees, Radians}
 use Rattle.record.specs.declared.ask.Asked.{Asked}
 use Rattle.record.specs.declared.ask.Asked.the-variants as asked
 use Rattle.record.specs.Kinds.{kindAt, angle}
 use Rattle.record.specs.Decode.{decode}
-use Rattle.record.specs.Entry.{Label, startOf, part, named}
+use Rattle.record.specs.Entry.{Label, viewOf, named}
 use Rattle.record.specs.Sound.{goodTest}
-use Rattle.record.specs.Formed.{malformed}
+use Rattle.record.specs.Formed.{malformedAt}
 
 -- ---- labels, counted from 0
 
@@ -26,14 +23,7 @@ labelOf text b q = cond (goodTest text b && ltb q (decode b .count)) (named text
 
 -- where that part starts in the text; an empty part for a bad record or label number starts where the text does
 unfoldable pub labelFrom : List ℕ → List ℕ → ℕ → ℕ
-labelFrom text b q = cond (goodTest text b && ltb q (decode b .count)) (startOf (decode b) q) 0
-
--- a part of the text that lies inside it, starts there and is that label
-pub record Names (text b : List ℕ) (q : ℕ) (r : Part) : Type 0 where
-  pub ordered : r .start ≤ r .end
-  pub inside : r .end ≤ length text
-  pub starts : r .start ≡ labelFrom text b q
-  pub is : part text (r .start) (r .end - r .start) ≡ labelOf text b q
+labelFrom text b q = cond (goodTest text b && ltb q (decode b .count)) (viewOf (decode b) q .start) 0
 
 -- ---- angles
 
@@ -48,4 +38,4 @@ angleIn r = cond (eqb (r .third) degrees) (Degrees (ofBits binary64 (r .x))) (Ra
 -- the angle of a good record of the kind that has one; any other record gets 30 at 0
 unfoldable pub angleOf : List ℕ → List ℕ → Asked
 angleOf text b =
-    cond (goodTest text b && eqb (kindAt (decode b .kind) .number) angle) (asked.Angle (angleIn (decode b))) (asked.Refused malformed 0)
+    cond (goodTest text b && eqb (kindAt (decode b .kind) .number) angle) (asked.Angle (angleIn (decode b))) (asked.Refused (malformedAt 0))

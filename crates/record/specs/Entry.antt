@@ -3,6 +3,7 @@ use mathlib.Core.Path.{_≡_}
 use mathlib.Core.List.{List, [], _∷_}
 use Prim.Native.Nat.{ℕ, zero, suc, _+_}
 use lib.ListN.{getD, take, drop}
+use Rattle.record.specs.declared.View.{View}
 use Rattle.record.specs.declared.Record.{Record}
 
 -- a label is its bytes
@@ -36,26 +37,26 @@ abbrev pub upTo : {A : Type 0} → ℕ → (ℕ → A) → List A
 upTo zero f = []
 upTo (suc n) f = f zero ∷ upTo n (λ k. f (suc k))
 
--- where label q of a record starts
-abbrev pub startOf : Record → ℕ → ℕ
-startOf r q = getD (r .start0 ∷ r .start1 ∷ r .start2 ∷ r .start3 ∷ []) q 0
+-- a label that is not there
+abbrev pub noView : View
+noView = record { start = 0; len = 0 }
 
--- the length of label q of a record
-abbrev pub lenOf : Record → ℕ → ℕ
-lenOf r q = getD (r .len0 ∷ r .len1 ∷ r .len2 ∷ r .len3 ∷ []) q 0
+-- label place q of a record, counted from 0
+abbrev pub viewOf : Record → ℕ → View
+viewOf r q = getD (r .labels) q noView
 
 -- the part of a text that starts at a place and has a length
 abbrev pub part : List ℕ → ℕ → ℕ → Label
 part text start len = take len (drop start text)
 
 -- a part of a lent text is handed back: these bytes, from a start in the text on. A place in memory is a block and an offset in it
-pub record HandsBack (label : Label) (start : ℕ) (from : ℕ × ℕ) (bytes : List ℕ) (at : ℕ × ℕ) : Type 0 where
+pub record LendsPart (label : Label) (start : ℕ) (from : ℕ × ℕ) (bytes : List ℕ) (at : ℕ × ℕ) : Type 0 where
   pub is : bytes ≡ label
   pub there : at ≡ (from .0, start + from .1)
 
 -- the part of a text that label q of a record names
 abbrev pub named : List ℕ → Record → ℕ → Label
-named text r q = part text (startOf r q) (lenOf r q)
+named text r q = part text (viewOf r q .start) (viewOf r q .len)
 
 -- a record's fields with its labels as their text
 unfoldable pub entryOf : List ℕ → Record → Entry

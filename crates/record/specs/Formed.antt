@@ -7,20 +7,21 @@ use Prim.Native.Nat.{ℕ, suc, _%_, _≤_, _<_}
 use lib.Dec.{leb, ltb, eqb}
 use lib.ListN.{length}
 use Rattle.refusal.specs.First.{SomeBelow, EachBelow, anyBelow, lowest}
+use Rattle.refusal.specs.declared.Refusal.{Refusal}
 use Rattle.record.specs.declared.formed.Formed.{Formed}
 use Rattle.record.specs.declared.formed.Formed.the-variants as formed
-use Rattle.record.specs.Record.{recordBytes, firstGuess}
+use Rattle.record.specs.Record.{recordBytes, mostRecords, longestText, firstGuess}
 use Rattle.record.specs.Decode.{isGuess, decode, countOf, recordOf}
 use Rattle.record.specs.Entry.{Entry, noEntry, entryAt, upTo, entryOf}
-use Rattle.record.specs.Sound.{longest, Sound, Good, framedTest, soundTest}
-
--- the most records
-abbrev pub most : ℕ
-most = 1800
+use Rattle.record.specs.Sound.{Sound, Good, framedTest, soundTest}
 
 -- the number of the refusal
 abbrev pub malformed : ℕ
 malformed = 30
+
+-- 30 at a place
+abbrev pub malformedAt : ℕ → Refusal
+malformedAt i = record { number = malformed; place = i }
 
 -- ---- a list that is well formed, as docs/FORMAT.md has it
 
@@ -38,8 +39,8 @@ pub record Parted (bs : List ℕ) : Type 0 where
 
 -- text and list within their limits, whole records, each a good one, and instructions before guesses
 pub record WellFormed (text bs : List ℕ) : Type 0 where
-  pub short : length text ≤ longest
-  pub few : countOf bs ≤ most
+  pub short : length text ≤ longestText
+  pub few : countOf bs ≤ mostRecords
   pub whole : length bs % recordBytes ≡ 0
   pub each : EachBelow (countOf bs) (λ i. Good text (recordOf bs i))
   pub parted : Parted bs
@@ -53,26 +54,26 @@ entry text b = cond (framedTest (length text) b) (entryOf text (decode b)) noEnt
 -- a piece of a record at the end is no record, and neither is anything where text or list is too long
 unfoldable pub entries : List ℕ → List ℕ → List Entry
 entries text bs =
-    cond (leb (length text) longest && leb (countOf bs) most)
+    cond (leb (length text) longestText && leb (countOf bs) mostRecords)
     (upTo (countOf bs) (λ i. entry text (recordOf bs i)) ++ cond (eqb (length bs % recordBytes) 0) [] (noEntry ∷ []))
     (noEntry ∷ [])
 
 -- ---- where a list is at fault. A place is an entry, or the one after the last
 
 -- an entry is a guess
-abbrev pub Guess : Entry → Type 0
-Guess e = firstGuess ≤ e .kind
+abbrev pub GuessEntry : Entry → Type 0
+GuessEntry e = firstGuess ≤ e .kind
 
 -- the list is at fault at place i
 pub data Malformed (es : List Entry) (i : ℕ) : Type 0 where
   -- no record, or one that is not sound
   unsound : i < length es → (Sound (entryAt es i) → ⊥) → Malformed es i
   -- an instruction is due
-  guess-first : i < length es → i ≡ 0 → Guess (entryAt es i) → Malformed es i
+  guess-first : i < length es → i ≡ 0 → GuessEntry (entryAt es i) → Malformed es i
   -- an instruction after a guess
-  after-guess : i < length es → (Guess (entryAt es i) → ⊥) → SomeBelow i (λ j. Guess (entryAt es j)) → Malformed es i
+  after-guess : i < length es → (GuessEntry (entryAt es i) → ⊥) → SomeBelow i (λ j. GuessEntry (entryAt es j)) → Malformed es i
   -- a guess is due
-  no-guess : i ≡ length es → (SomeBelow i (λ j. Guess (entryAt es j)) → ⊥) → Malformed es i
+  no-guess : i ≡ length es → (SomeBelow i (λ j. GuessEntry (entryAt es j)) → ⊥) → Malformed es i
 
 -- how many places there are
 abbrev pub places : List Entry → ℕ
@@ -94,15 +95,11 @@ unfoldable pub malformedTest : List Entry → ℕ → Bool
 malformedTest es i =
     (ltb i (length es) && faultTest (entryAt es i) (eqb i 0) (anyGuess es i)) || (eqb i (length es) && not (anyGuess es i))
 
--- the same by the kind of a good record, which is 0 for a bad one
-abbrev pub misplaced : ℕ → ℕ → Bool → Bool
-misplaced kind i behind-guess = eqb kind 0 || ((eqb i 0 && isGuess kind) || (not (isGuess kind) && behind-guess))
-
 -- ---- what is told: the lowest place at fault
 
 -- 30 at a place, or nothing
 abbrev pub verdict : Option ℕ → Formed
-verdict (some i) = formed.Refused malformed i
+verdict (some i) = formed.Refused (malformedAt i)
 verdict none = formed.WellFormed
 
 -- what is told of a list

@@ -2,7 +2,7 @@
 -- the kinds' numbers; row 0 is no kind.
 use mathlib.Core.Bool.{Bool, true, false, _&&_, cond}
 use mathlib.Core.List.{List, [], _∷_, _++_, map}
-use Prim.Native.Nat.{ℕ, _-_}
+use Prim.Native.Nat.{ℕ, _-_, _≤_}
 use Prim.Native.String.{String}
 use lib.Dec.{ltb, eqb}
 use lib.ListN.{length, getD, replicate}
@@ -24,6 +24,49 @@ pub record Kind : Type 0 where
   pub gap : Bool
   -- whether its label may have a point and a second part
   pub dotted : Bool
+
+-- ---- the kinds that are told apart
+
+-- the declarations
+abbrev pub newPoint : ℕ
+newPoint = 1
+
+abbrev pub newCircle : ℕ
+newCircle = 2
+
+abbrev pub newArc : ℕ
+newArc = 3
+
+-- the first and the last rule
+abbrev pub firstRule : ℕ
+firstRule = 4
+
+abbrev pub lastRule : ℕ
+lastRule = 23
+
+-- a component that is fixed, and one of a center
+abbrev pub fixComponent : ℕ
+fixComponent = 4
+
+abbrev pub fixCenter : ℕ
+fixCenter = 18
+
+-- a guess of a pair, and of a number
+abbrev pub pairGuess : ℕ
+pairGuess = 24
+
+abbrev pub numberGuess : ℕ
+numberGuess = 25
+
+-- a kind is a declaration's, a rule's, a guess's
+abbrev pub Declaration : ℕ → Type 0
+Declaration kind = (newPoint ≤ kind) × (kind ≤ newArc)
+
+abbrev pub Rule : ℕ → Type 0
+Rule kind = (firstRule ≤ kind) × (kind ≤ lastRule)
+
+abbrev pub Guess : ℕ → Type 0
+Guess kind = (pairGuess ≤ kind) × (kind ≤ numberGuess)
 
 -- ---- what a label's place needs, by its code
 

@@ -5,3 +5,4 @@ pub mod Entry
 pub mod Sound
 pub mod Formed
 pub mod Ask
+pub mod Steps

@@ -1,15 +1,33 @@
 -- A record and its bytes (docs/FORMAT.md, "Record").
 use mathlib.Core.Bool.{cond}
 use mathlib.Core.List.{List, [], _∷_, _++_}
-use Prim.Native.Nat.{ℕ, _+_, _/_, _%_, _^_}
+use Prim.Native.Nat.{ℕ, _-_}
 use lib.Dec.{leb}
+use lib.ListN.{replicate}
+use Rattle.ground.specs.Lists.{flat}
+use Rattle.bytes.specs.Little.{le16, le64}
+use Rattle.record.specs.declared.View.{View}
 use Rattle.record.specs.declared.Record.{Record}
+use Rattle.record.specs.Kinds.{pairGuess}
+use Rattle.record.specs.Entry.{noView, viewOf, upTo}
 
--- ---- lengths and marks
+-- ---- limits and marks
 
 -- a record's length in bytes
 abbrev pub recordBytes : ℕ
 recordBytes = 28
+
+-- the most records of a list
+abbrev pub mostRecords : ℕ
+mostRecords = 1800
+
+-- the longest text
+abbrev pub longestText : ℕ
+longestText = 32768
+
+-- the label places of a record
+abbrev pub labelPlaces : ℕ
+labelPlaces = 4
 
 -- the first byte of its mark; the second is the kind
 abbrev pub mark : ℕ
@@ -17,34 +35,32 @@ mark = 69
 
 -- kinds from this on are guesses
 abbrev pub firstGuess : ℕ
-firstGuess = 24
+firstGuess = pairGuess
 
--- ---- numbers as bytes, the lowest first
+-- ---- records that are made
 
-abbrev pub le16 : ℕ → List ℕ
-le16 n = n % 256 ∷ n / 256 % 256 ∷ []
-
-abbrev pub le64 : ℕ → List ℕ
-le64 n =
-    n % 256 ∷ n / 2 ^ 8 % 256 ∷ n / 2 ^ 16 % 256 ∷ n / 2 ^ 24 % 256
-    ∷ n / 2 ^ 32 % 256 ∷ n / 2 ^ 40 % 256 ∷ n / 2 ^ 48 % 256 ∷ n / 2 ^ 56 % 256 ∷ []
+-- a record with one label
+abbrev pub oneLabel : ℕ → ℕ → View → ℕ → ℕ → Record
+oneLabel kind third label x y =
+    record { kind = kind; third = third; count = 1; labels = label ∷ replicate (labelPlaces - 1) noView; x = x; y = y }
 
 -- ---- the record as bytes
 
--- the mark, the third byte, the count of labels, and the first label
+-- a view: its start, then its length
+abbrev pub encodeView : View → List ℕ
+encodeView v = le16 (v .start) ++ le16 (v .len)
+
+-- the mark, the third byte, and the count of labels
 abbrev pub opening : Record → List ℕ
-opening r = mark ∷ r .kind ∷ r .third ∷ r .count ∷ (le16 (r .start0) ++ le16 (r .len0))
+opening r = mark ∷ r .kind ∷ r .third ∷ r .count ∷ []
 
--- an instruction: three more labels, then the number
+-- an instruction: its label places, then the number
 abbrev pub instruction : Record → List ℕ
-instruction r =
-    opening r
-    ++ le16 (r .start1) ++ le16 (r .len1) ++ le16 (r .start2) ++ le16 (r .len2) ++ le16 (r .start3) ++ le16 (r .len3)
-    ++ le64 (r .x)
+instruction r = opening r ++ flat encodeView (upTo labelPlaces (viewOf r)) ++ le64 (r .x)
 
--- a guess: the bits of x and y follow the first label, and four zeros end it
+-- a guess: one label, the bits of x and y, and four zeros
 abbrev pub guess : Record → List ℕ
-guess r = opening r ++ le64 (r .x) ++ le64 (r .y) ++ (0 ∷ 0 ∷ 0 ∷ 0 ∷ [])
+guess r = opening r ++ flat encodeView (upTo 1 (viewOf r)) ++ le64 (r .x) ++ le64 (r .y) ++ (0 ∷ 0 ∷ 0 ∷ 0 ∷ [])
 
 unfoldable pub encode : Record → List ℕ
 encode r = cond (leb firstGuess (r .kind)) (guess r) (instruction r)

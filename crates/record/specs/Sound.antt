@@ -10,21 +10,15 @@ use Rattle.text.specs.Text.{isAlphanum, labelOn, dottedOn}
 use Rattle.text.specs.declared.Stand.the-variants.{At}
 use Rattle.text.specs.declared.Label.{Label as Read}
 use Rattle.refusal.specs.First.{EachBelow, allBelow}
+use Rattle.bytes.specs.Little.{byte}
+use Rattle.record.specs.declared.View.{View}
 use Rattle.record.specs.declared.Record.{Record}
 use Rattle.record.specs.Kinds.{Kind, kinds, kindAt, none, pair}
-use Rattle.record.specs.Record.{recordBytes, mark, firstGuess}
-use Rattle.record.specs.Decode.{byte, isGuess, decode}
-use Rattle.record.specs.Entry.{Label, Entry, labelNo, startOf, lenOf, named, entryOf}
+use Rattle.record.specs.Record.{recordBytes, longestText, labelPlaces, mark, firstGuess}
+use Rattle.record.specs.Decode.{isGuess, decode}
+use Rattle.record.specs.Entry.{Label, Entry, labelNo, noView, viewOf, entryOf}
 
--- ---- limits
-
--- the longest text
-abbrev pub longest : ℕ
-longest = 32768
-
--- the label places of a record
-abbrev pub labelPlaces : ℕ
-labelPlaces = 4
+-- ---- where a guess ends
 
 -- where the numbers of a guess end
 abbrev pub guessEnd : ℕ
@@ -48,8 +42,8 @@ Spelled true l = Plain l ⊎ ((a : Label) × (b : Label) × (l ≡ a ++ 46 ∷ b
 
 -- a label place that is used lies inside the text, and one that is not has zeros
 pub record Placed (text : List ℕ) (r : Record) (q : ℕ) : Type 0 where
-  pub used : q < r .count → startOf r q + lenOf r q ≤ length text
-  pub unused : r .count ≤ q → (startOf r q ≡ 0) × (lenOf r q ≡ 0)
+  pub used : q < r .count → viewOf r q .start + viewOf r q .len ≤ length text
+  pub unused : r .count ≤ q → viewOf r q ≡ noView
 
 -- ---- the bytes, and what they say
 
@@ -80,7 +74,7 @@ pub record Sound (e : Entry) : Type 0 where
 
 -- the bytes of a good record over a text
 pub record Good (text b : List ℕ) : Type 0 where
-  pub short : length text ≤ longest
+  pub short : length text ≤ longestText
   pub framed : Framed text b
   pub sound : Sound (entryOf text (decode b))
 
@@ -94,13 +88,13 @@ reads l n = ltb 0 (l .len) && eqb (l .len) n
 unfoldable pub spelledTest : Bool → Label → Bool
 spelledTest dotted l = reads (cond dotted (dottedOn l (At 0)) (labelOn l (At 0))) (length l)
 
--- a label's start and length, whether its place is used, and the length of the text
-abbrev pub placedTest : ℕ → ℕ → Bool → ℕ → Bool
-placedTest start len used n = cond used (leb (start + len) n) (eqb start 0 && eqb len 0)
+-- a label's view, whether its place is used, and the length of the text
+abbrev pub placedTest : View → Bool → ℕ → Bool
+placedTest v used n = cond used (leb (v .start + v .len) n) (eqb (v .start) 0 && eqb (v .len) 0)
 
 -- each label place of a record, over a text of n bytes
 abbrev pub allPlaced : Record → ℕ → Bool
-allPlaced r n = allBelow labelPlaces (λ q. placedTest (startOf r q) (lenOf r q) (ltb q (r .count)) n)
+allPlaced r n = allBelow labelPlaces (λ q. placedTest (viewOf r q) (ltb q (r .count)) n)
 
 -- a guess ends in zeros
 abbrev pub endedTest : List ℕ → Bool → Bool
@@ -124,10 +118,6 @@ fieldsTest k third count x y =
     && ((not (eqb (k .number) none) || eqb x 0)
     && (eqb (k .number) pair || eqb y 0))))
 
--- each label of a record is spelled as one
-abbrev pub spelledAll : List ℕ → Record → Bool → Bool
-spelledAll text r dotted = allBelow labelPlaces (λ q. not (ltb q (r .count)) || spelledTest dotted (named text r q))
-
 -- an entry is sound
 unfoldable pub soundTest : Entry → Bool
 soundTest e =
@@ -136,8 +126,4 @@ soundTest e =
 
 -- the bytes are a good record's
 unfoldable pub goodTest : List ℕ → List ℕ → Bool
-goodTest text b = leb (length text) longest && (framedTest (length text) b && soundTest (entryOf text (decode b)))
-
--- the kind of a good record, and 0 of any other bytes
-unfoldable pub goodKind : List ℕ → List ℕ → ℕ
-goodKind text b = cond (goodTest text b) (decode b .kind) 0
+goodTest text b = leb (length text) longestText && (framedTest (length text) b && soundTest (entryOf text (decode b)))

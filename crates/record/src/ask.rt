@@ -1,14 +1,17 @@
 // What a record is asked for: a label, as the part of the text that it names, or its angle. The record is judged by itself.
 ghost use mathlib.Core.Path.{_≡_};
 ghost use denote.Ref.{ptr};
-ghost use Rattle.record.specs.Entry.{HandsBack};
-ghost use Rattle.record.specs.Ask.{labelOf, labelFrom, Names, angleIn, angleOf};
+ghost use Rattle.record.specs.Entry.{LendsPart};
+ghost use Rattle.record.specs.Ask.{labelOf, labelFrom, angleIn, angleOf};
+ghost use Rattle.record.specs.Steps.{Names};
 use super::Record;
+use super::View;
 use super::decode;
-use super::formed::MALFORMED;
+use super::formed::malformed_at;
 use super::kinds;
 use super::kinds::KINDS;
 use super::sound;
+use refusal::Refusal;
 
 // The third byte of an angle in degrees.
 const DEGREES: u8 = 1;
@@ -22,21 +25,15 @@ pub enum Angle {
 // What asking for an angle gives back.
 pub enum Asked {
     Angle(Angle),
-    Refused { number: u8, place: usize },
-}
-
-// A part of a text, by its start and its end.
-struct Part {
-    start: usize,
-    end: usize,
+    Refused(Refusal),
 }
 
 // The part that label q of a record names; an empty one for a bad record or label number.
-fn part_of(text: &[u8], bytes: &[u8], q: usize) -> Part
+fn part_of(text: &[u8], bytes: &[u8], q: usize) -> View
     ensures { λ r. ⌜ Names (now (text .entry)) (now (bytes .entry)) q r ⌝ }
 {
     let kinds = KINDS;
-    let nothing = Part { start: 0, end: 0 };
+    let nothing = View { start: 0, len: 0 };
     if sound::good_kind(&kinds, text, bytes) == 0 {
         return nothing;
     }
@@ -44,23 +41,17 @@ fn part_of(text: &[u8], bytes: &[u8], q: usize) -> Part
     if r.count as usize <= q {
         return nothing;
     }
-    let starts = [r.start0, r.start1, r.start2, r.start3];
-    let lens = [r.len0, r.len1, r.len2, r.len3];
-    let start = starts[q];
-    Part {
-        start,
-        end: start + lens[q],
-    }
+    r.labels[q]
 }
 
 // Label q of a record, counted from 0: the part of the lent text that it names, and for a bad record or label number an empty part at
 // the text's start.
 pub fn label<'a>(text: &'a [u8], bytes: &[u8], q: usize) -> &'a [u8]
-    ensures { λ r. ⌜ HandsBack (labelOf (now (text .entry)) (now (bytes .entry)) q) (labelFrom (now (text .entry)) (now (bytes .entry)) q) (ptr (text .entry)) (now r) (ptr r) ⌝ }
+    ensures { λ r. ⌜ LendsPart (labelOf (now (text .entry)) (now (bytes .entry)) q) (labelFrom (now (text .entry)) (now (bytes .entry)) q) (ptr (text .entry)) (now r) (ptr r) ⌝ }
 {
-    let p = part_of(text, bytes, q);
-    let start = p.start;
-    let end = p.end;
+    let v = part_of(text, bytes, q);
+    let start = v.start;
+    let end = start + v.len;
     &text[start..end]
 }
 
@@ -82,10 +73,7 @@ pub fn angle_of(text: &[u8], bytes: &[u8]) -> Asked
     let kinds = KINDS;
     let kind = sound::good_kind(&kinds, text, bytes);
     if kinds::look(&kinds, kind, kinds::SORT) != kinds::ANGLE {
-        return Asked::Refused {
-            number: MALFORMED,
-            place: 0,
-        };
+        return Asked::Refused(malformed_at(0));
     }
     Asked::Angle(angle_in(decode::fields(bytes)))
 }

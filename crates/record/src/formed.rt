@@ -1,27 +1,39 @@
 // Whether a list of records is well formed.
 ghost use mathlib.Core.Path.{_≡_};
-ghost use Rattle.record.specs.Formed.{entries, misplaced, formedOf};
-use super::GUESS;
+ghost use Rattle.record.specs.Formed.{malformedAt, entries, formedOf};
+ghost use Rattle.record.specs.Steps.{misplaced};
+use super::LONGEST;
+use super::MOST;
 use super::SIZE;
 use super::kinds::KINDS;
+use super::kinds::PAIR_GUESS;
 use super::sound;
+use refusal::Refusal;
 
-// The most records, and the number of the refusal.
-pub const MOST: usize = 1_800;
-
+// The number of the refusal.
 pub const MALFORMED: u8 = 30;
 
 // What is told of a list of records.
 pub enum Formed {
     WellFormed,
-    Refused { number: u8, place: usize },
+    Refused(Refusal),
+}
+
+// 30 at a place.
+pub(crate) fn malformed_at(place: usize) -> Refusal
+    ensures { λ r. ⌜ r ≡ malformedAt place ⌝ }
+{
+    Refusal {
+        number: MALFORMED,
+        place,
+    }
 }
 
 // Whether a record is bad or not in its place, by its kind, which is 0 for a bad one.
 fn at_fault(kind: u8, i: usize, guessed: bool) -> bool
     ensures { λ r. ⌜ r ≡ misplaced kind i guessed ⌝ }
 {
-    let guess = GUESS <= kind;
+    let guess = PAIR_GUESS <= kind;
     (kind == 0) | (((i == 0) & guess) | (!guess & guessed))
 }
 
@@ -29,18 +41,12 @@ fn at_fault(kind: u8, i: usize, guessed: bool) -> bool
 pub fn well_formed(text: &[u8], records: &[u8]) -> Formed
     ensures { λ r. ⌜ r ≡ formedOf (entries (now (text .entry)) (now (records .entry))) ⌝ }
 {
-    if sound::LONGEST < text.len() {
-        return Formed::Refused {
-            number: MALFORMED,
-            place: 0,
-        };
+    if LONGEST < text.len() {
+        return Formed::Refused(malformed_at(0));
     }
     let n = records.len() / SIZE;
     if MOST < n {
-        return Formed::Refused {
-            number: MALFORMED,
-            place: 0,
-        };
+        return Formed::Refused(malformed_at(0));
     }
     let kinds = KINDS;
     let mut guessed = false;
@@ -50,19 +56,13 @@ pub fn well_formed(text: &[u8], records: &[u8]) -> Formed
         let end = at + SIZE;
         let kind = sound::good_kind(&kinds, text, &records[at..end]);
         if at_fault(kind, i, guessed) {
-            return Formed::Refused {
-                number: MALFORMED,
-                place: i,
-            };
+            return Formed::Refused(malformed_at(i));
         }
-        guessed = guessed | (GUESS <= kind);
+        guessed = guessed | (PAIR_GUESS <= kind);
         i += 1;
     }
     if (records.len() % SIZE != 0) | !guessed {
-        return Formed::Refused {
-            number: MALFORMED,
-            place: n,
-        };
+        return Formed::Refused(malformed_at(n));
     }
     Formed::WellFormed
 }

@@ -2,6 +2,26 @@
 ghost use mathlib.Core.Path.{_≡_};
 ghost use Rattle.record.specs.Kinds.{cell, wordOf, inField, begins};
 
+// The kinds that are told apart: the declarations, the first and the last rule, a component that is fixed, one of a center that is fixed,
+// and the guesses of a pair and of a number.
+pub const NEW_POINT: u8 = 1;
+
+pub const NEW_CIRCLE: u8 = 2;
+
+pub const NEW_ARC: u8 = 3;
+
+pub const FIRST_RULE: u8 = 4;
+
+pub const FIX_COMPONENT: u8 = 4;
+
+pub const FIX_CENTER: u8 = 18;
+
+pub const LAST_RULE: u8 = 23;
+
+pub const PAIR_GUESS: u8 = 24;
+
+pub const NUMBER_GUESS: u8 = 25;
+
 // The columns of the table: how many labels a kind has, what each of the four label places needs, its third byte, the sort of its
 // number, and how its form is spelled.
 pub const LABELS: usize = 0;

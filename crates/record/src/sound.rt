@@ -5,23 +5,21 @@ ghost use Prim.Native.Nat.{_+_, _≤_};
 ghost use lib.ListN.{length};
 ghost use Rattle.refusal.specs.First.{EachBelow};
 ghost use Rattle.record.specs.Kinds.{table, kindAt};
-ghost use Rattle.record.specs.Record.{recordBytes};
+ghost use Rattle.record.specs.Record.{recordBytes, labelPlaces};
 ghost use Rattle.record.specs.Decode.{decode};
 ghost use Rattle.record.specs.Entry.{part};
-ghost use Rattle.record.specs.Sound.{labelPlaces, Placed, spelledTest, placedTest, allPlaced, endedTest, framedTest, fieldsTest, spelledAll, goodKind};
-use super::GUESS;
+ghost use Rattle.record.specs.Sound.{Placed, spelledTest, placedTest, allPlaced, endedTest, framedTest, fieldsTest};
+ghost use Rattle.record.specs.Steps.{spelledAll, goodKind};
+use super::LONGEST;
 use super::MARK;
+use super::PLACES;
 use super::Record;
 use super::SIZE;
+use super::View;
 use super::decode;
 use super::kinds;
+use super::kinds::PAIR_GUESS;
 use text::Stand;
-
-// The longest text.
-pub const LONGEST: usize = 32_768;
-
-// The label places of a record.
-const PLACES: u8 = 4;
 
 // Whether a text is spelled as a label, or as two around a point.
 fn spelled(label: &[u8], dotted: bool) -> bool
@@ -37,14 +35,15 @@ fn spelled(label: &[u8], dotted: bool) -> bool
 }
 
 // Whether a label place that is used is spelled as a label.
-fn spelled_if(text: &[u8], start: usize, len: usize, used: bool, dotted: bool) -> bool
-    requires { ⌜ (used ≡ true → start + len ≤ length (now text)) ⌝ }
-    ensures { λ r. ⌜ r ≡ not used || spelledTest dotted (part (now (text .entry)) start len) ⌝ }
+fn spelled_if(text: &[u8], v: View, used: bool, dotted: bool) -> bool
+    requires { ⌜ (used ≡ true → v .start + v .len ≤ length (now text)) ⌝ }
+    ensures { λ r. ⌜ r ≡ not used || spelledTest dotted (part (now (text .entry)) (v .start) (v .len)) ⌝ }
 {
     if !used {
         return true;
     }
-    let end = start + len;
+    let start = v.start;
+    let end = start + v.len;
     spelled(&text[start..end], dotted)
 }
 
@@ -53,33 +52,33 @@ fn spelled_all(text: &[u8], r: Record, dotted: bool) -> bool
     requires { ⌜ EachBelow labelPlaces (Placed (now text) r) ⌝ }
     ensures { λ b. ⌜ b ≡ spelledAll (now (text .entry)) r dotted ⌝ }
 {
-    spelled_if(text, r.start0, r.len0, 0 < r.count, dotted)
-        & spelled_if(text, r.start1, r.len1, 1 < r.count, dotted)
-        & spelled_if(text, r.start2, r.len2, 2 < r.count, dotted)
-        & spelled_if(text, r.start3, r.len3, 3 < r.count, dotted)
+    spelled_if(text, r.labels[0], 0 < r.count, dotted)
+        & spelled_if(text, r.labels[1], 1 < r.count, dotted)
+        & spelled_if(text, r.labels[2], 2 < r.count, dotted)
+        & spelled_if(text, r.labels[3], 3 < r.count, dotted)
 }
 
 // Whether a label place lies inside a text of n bytes, or has zeros where it is not used.
-fn placed(start: usize, len: usize, used: bool, n: usize) -> bool
-    ensures { λ r. ⌜ r ≡ placedTest start len used n ⌝ }
+fn placed(v: View, used: bool, n: usize) -> bool
+    ensures { λ r. ⌜ r ≡ placedTest v used n ⌝ }
 {
     if !used {
-        return (start == 0) & (len == 0);
+        return (v.start == 0) & (v.len == 0);
     }
-    if n < start {
+    if n < v.start {
         return false;
     }
-    len <= n - start
+    v.len <= n - v.start
 }
 
 // Whether each label place does.
 fn placed_all(r: Record, n: usize) -> bool
     ensures { λ b. ⌜ b ≡ allPlaced r n ⌝ }
 {
-    placed(r.start0, r.len0, 0 < r.count, n)
-        & placed(r.start1, r.len1, 1 < r.count, n)
-        & placed(r.start2, r.len2, 2 < r.count, n)
-        & placed(r.start3, r.len3, 3 < r.count, n)
+    placed(r.labels[0], 0 < r.count, n)
+        & placed(r.labels[1], 1 < r.count, n)
+        & placed(r.labels[2], 2 < r.count, n)
+        & placed(r.labels[3], 3 < r.count, n)
 }
 
 // Whether a guess ends in zeros.
@@ -95,7 +94,8 @@ fn framed(b: &[u8], r: Record, n: usize) -> bool
     requires { ⌜ (length (now b) ≡ recordBytes) × (r ≡ decode (now b)) ⌝ }
     ensures { λ a. ⌜ a ≡ framedTest n (now (b .entry)) ⌝ }
 {
-    (b[0] == MARK) & ((r.count <= PLACES) & (placed_all(r, n) & ended(b, GUESS <= r.kind)))
+    (b[0] == MARK)
+        & ((r.count as usize <= PLACES) & (placed_all(r, n) & ended(b, PAIR_GUESS <= r.kind)))
 }
 
 // Whether the fields of a record are as its kind allows.

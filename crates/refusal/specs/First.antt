@@ -5,6 +5,7 @@ use mathlib.Core.Option.{Option, none, some}
 use mathlib.Core.List.{List, [], _∷_, List·Memᴰ}
 use Prim.Native.Nat.{ℕ, zero, suc, _<_}
 use Rattle.refusal.specs.declared.Refusal.{Refusal}
+use Rattle.refusal.specs.Refusal.{refusal}
 
 -- ---- in words
 
@@ -78,11 +79,7 @@ once order test = first order (λ f i. test f) 1
 
 -- ---- what is answered
 
--- a refusal, by its number and place
-abbrev pub refusalBy : ℕ → ℕ → Refusal
-refusalBy number place = record { number = number; place = place }
-
 -- a refusal with the number of its fault, at its place, or else what is good
 unfoldable pub answered : {F A : Type 0} → (F → ℕ) → (Refusal → A) → Answer F → A → A
-answered number refuse (refused f i) good = refuse (refusalBy (number f) i)
+answered number refuse (refused f i) good = refuse (refusal (number f) i)
 answered number refuse passed good = good

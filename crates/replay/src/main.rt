@@ -4,7 +4,7 @@ use answers::Way;
 use batch::Header;
 use libc::STDIN_FILENO;
 use libc::STDOUT_FILENO;
-use lines::Place;
+use rail::Place;
 ghost use Prim.Native.Nat.{_≤_};
 ghost use lib.ListN.{length};
 

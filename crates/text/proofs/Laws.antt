@@ -12,7 +12,7 @@ use lib.Seq.{drop-cons}
 use borrow.Author.Tests.{eq-eqb, ne-eqb}
 use types.Run.{OneOf}
 use denote.Enum.Declared.{tagOf}
-use Rattle.text.specs.Text.{from, run, runTo, starts}
+use Rattle.text.specs.Text.{from, orStand, run, runTo, starts}
 use Rattle.text.specs.declared.Stand.{Stand}
 use Rattle.text.specs.declared.Stand.the-variants.{At, Nothing, Refused}
 use Rattle.text.proofs.Stand.{the-type}
@@ -23,7 +23,13 @@ use Rattle.text.proofs.Stand.{the-type}
 pub handed {ℓ} : {X : Type ℓ} (stand : Stand) (rest : X) (read : ℕ → X) → OneOf (1 ∷ 2 ∷ []) (tagOf the-type stand) → rest ≡ from stand rest read
 handed (At n) rest read h = absurd (⊎-elim (λ (e : 0 ≡ 1). omega arith) (λ (e : 0 ≡ 2). omega arith) h)
 handed Nothing rest read h = refl
-handed (Refused number place) rest read h = refl
+handed (Refused why) rest read h = refl
+
+-- where the first of two reads something, or refuses, it is taken
+pub taken : {X : Type 0} (stand : Stand) (first second : X) → OneOf (0 ∷ 2 ∷ []) (tagOf the-type stand) → first ≡ orStand stand first second
+taken (At n) first second h = refl
+taken Nothing first second h = absurd (⊎-elim (λ (e : 1 ≡ 0). omega arith) (λ (e : 1 ≡ 2). omega arith) h)
+taken (Refused why) first second h = refl
 
 -- ---- a byte by its place
 

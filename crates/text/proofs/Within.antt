@@ -19,7 +19,7 @@ Within s p stand = from stand (Unit {0}) (λ n. (p ≤ n) × (n ≤ length s))
 pub earlier : (s : List ℕ) {p q : ℕ} (stand : Stand) → p ≤ q → Within s q stand → Within s p stand
 earlier s (At n) l h = (omega arith, h .1)
 earlier s Nothing l h = tt
-earlier s (Refused number place) l h = tt
+earlier s (Refused why) l h = tt
 
 -- ---- how far a run and a word reach
 
@@ -82,13 +82,13 @@ module _ (s : List ℕ) where
     unfolding wsOn
     ws-within (At n) h = (omega (arith, h .0, runTo-ahead isSpace s n), runTo-inside isSpace s n (h .1))
     ws-within Nothing h = tt
-    ws-within (Refused number place) h = tt
+    ws-within (Refused why) h = tt
 
     pub word-within : (w : List ℕ) (stand : Stand) → Within s p stand → Within s p (wordOn s stand w)
     unfolding wordOn
     word-within w (At n) h = earlier s (wordAt s w n) (h .0) (wordAt-within w n (h .1))
     word-within w Nothing h = tt
-    word-within w (Refused number place) h = tt
+    word-within w (Refused why) h = tt
 
     pub byte-within : (b : ℕ) (stand : Stand) → Within s p stand → Within s p (byteOn s stand b)
     unfolding byteOn wordOn
@@ -98,4 +98,4 @@ module _ (s : List ℕ) where
     unfolding labelOn
     label-within (At n) h = earlier s (labelAt s n .then) (h .0) (labelAt-within n)
     label-within Nothing h = tt
-    label-within (Refused number place) h = tt
+    label-within (Refused why) h = tt

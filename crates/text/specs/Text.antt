@@ -15,7 +15,25 @@ use Rattle.text.specs.declared.Label.{Label}
 abbrev pub from {ℓ} : {X : Type ℓ} → Stand → X → (ℕ → X) → X
 from (At n) rest read = read n
 from Nothing rest read = rest
-from (Refused number place) rest read = rest
+from (Refused why) rest read = rest
+
+-- a refusal by its number at a place
+abbrev pub refusedAt : ℕ → ℕ → Stand
+refusedAt number place = Refused (record { number = number; place = place })
+
+-- the first of two, or the second where the first reads nothing
+abbrev pub orStand : {X : Type 0} → Stand → X → X → X
+orStand (At n) first second = first
+orStand Nothing first second = second
+orStand (Refused why) first second = first
+
+-- something was due at a place, and is refused there by this number
+abbrev pub missed : Stand → ℕ → Stand
+missed before number = from before Nothing (λ place. refusedAt number place)
+
+-- something was due: where nothing was read, it is refused by this number at the place where it was due
+abbrev pub due : Stand → Stand → ℕ → Stand
+due before read number = orStand read read (missed before number)
 
 -- ---- bytes
 

@@ -2,13 +2,14 @@
 // Each reader goes on from a place, and hands on a stand that is no place.
 ghost use mathlib.Core.Path.{_≡_};
 ghost use lib.ListN.{getD};
-ghost use Rattle.text.specs.Text.{isSpace, isAlphanum, spacesTo, alphanumTo, wsOn, labelOn, joined, suffixedOn, dottedOn, wordAt, wordOn, byteOn, newlineOn};
+ghost use Rattle.text.specs.Text.{orStand, missed, due, isSpace, isAlphanum, spacesTo, alphanumTo, wsOn, labelOn, joined, suffixedOn, dottedOn, wordAt, wordOn, byteOn, newlineOn};
+use refusal::Refusal;
 
-// A place of the text; nothing read; or a refusal with its number and place.
+// A place of the text; nothing read; or a refusal.
 pub enum Stand {
     At(usize),
     Nothing,
-    Refused { number: u8, place: usize },
+    Refused(Refusal),
 }
 
 // A label by its first byte and its length, and where reading stands behind it.
@@ -16,6 +17,33 @@ pub struct Label {
     pub start: usize,
     pub len: usize,
     pub then: Stand,
+}
+
+// What was read, or else another stand.
+pub fn or_stand(read: Stand, other: Stand) -> Stand
+    ensures { λ r. ⌜ r ≡ orStand read read other ⌝ }
+{
+    let Stand::Nothing = read else {
+        return read;
+    };
+    other
+}
+
+// What is due at a place is refused there by a number.
+pub fn missing(stand: Stand, number: u8) -> Stand
+    ensures { λ r. ⌜ r ≡ missed stand number ⌝ }
+{
+    let Stand::At(place) = stand else {
+        return Stand::Nothing;
+    };
+    Stand::Refused(Refusal { number, place })
+}
+
+// What was due and was not read is refused, by a number, at the place where it was due.
+pub fn refuse(stand: Stand, read: Stand, number: u8) -> Stand
+    ensures { λ r. ⌜ r ≡ due stand read number ⌝ }
+{
+    or_stand(read, missing(stand, number))
 }
 
 // The byte at a place, and 0 past the end.

@@ -8,7 +8,7 @@ use Rattle.drawing.proofs.check.Statement.{statement}
 use Rattle.drawing.proofs.check.Tie as tie
 
 returns : tie.Need-returns
-returns c = told-30 _ _ _ (sym (c .before .before .before .well-formed .ensures) ∙ c .before .number .given .1)
+returns c = told-30 _ _ (sym (c .before .before .before .well-formed .ensures) ∙ c .before .r .given .1)
 
 check-by-requires : tie.Need-check-by-requires
 check-by-requires c κs =

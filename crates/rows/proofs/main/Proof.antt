@@ -2,7 +2,7 @@
 use mathlib.Core.Path.{sym}
 use lib.Seq.{length-take-le}
 use borrow.Author.Needs.{needs}
-use Rattle.lines.proofs.Added.{inside}
+use Rattle.rail.proofs.Added.{inside}
 use Rattle.rows.proofs.main.Statement.{statement}
 use Rattle.rows.proofs.main.Tie as tie
 

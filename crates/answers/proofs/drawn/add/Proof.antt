@@ -6,10 +6,10 @@ use native.Mathlib.Omega.{arith}
 use lib.ListN.{length}
 use borrow.Author.Needs.{needs}
 use Rattle.record.specs.Entry.{upTo}
-use Rattle.lowering.specs.Rows.{rowBytes}
-use Rattle.lines.specs.Lines.{joined}
-use Rattle.lines.specs.Drawn.{decodeRow, rowOf, rowLine}
-use Rattle.lines.proofs.Added.{said, added, Behind, behind-none, behind-more}
+use Rattle.row.specs.Row.{rowBytes, decodeRow, rowOf}
+use Rattle.rail.specs.Words.{joined}
+use Rattle.lines.specs.Drawn.{rowLine}
+use Rattle.rail.proofs.Added.{said, added, Behind, behind-none, behind-more}
 use Rattle.answers.specs.Steps.{loweredBy}
 use Rattle.answers.proofs.Joined.{joined-more}
 use Rattle.answers.proofs.drawn.add.Statement.{statement}

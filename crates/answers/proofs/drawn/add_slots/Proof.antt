@@ -7,9 +7,9 @@ use lib.ListN.{length, getD}
 use lib.Ieee.{nan}
 use borrow.Author.Needs.{needs}
 use Rattle.record.specs.Entry.{upTo}
-use Rattle.lines.specs.Lines.{joined}
+use Rattle.rail.specs.Words.{joined}
 use Rattle.lines.specs.Drawn.{slotLine}
-use Rattle.lines.proofs.Added.{said, added, Behind, behind-none, behind-more}
+use Rattle.rail.proofs.Added.{said, added, Behind, behind-none, behind-more}
 use Rattle.answers.specs.Steps.{slotsBy}
 use Rattle.answers.proofs.Joined.{joined-more}
 use Rattle.answers.proofs.drawn.add_slots.Statement.{statement}

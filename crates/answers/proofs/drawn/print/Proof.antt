@@ -1,6 +1,6 @@
 -- `answers::drawn::print` meets its contract: the lines are measured first, and written where they have room. Assumes nothing.
 use borrow.Author.Needs.{needs}
-use Rattle.lines.proofs.Added.{kept, printed}
+use Rattle.rail.proofs.Added.{kept, printed}
 use Rattle.answers.proofs.drawn.print.Statement.{statement}
 use Rattle.answers.proofs.drawn.print.Tie as tie
 

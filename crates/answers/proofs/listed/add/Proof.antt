@@ -7,8 +7,9 @@ use lib.ListN.{length}
 use borrow.Author.Needs.{needs}
 use Rattle.record.specs.Decode.{countOf, decodeAt}
 use Rattle.record.specs.Entry.{upTo, entryOf}
-use Rattle.lines.specs.Lines.{joined, lineOf}
-use Rattle.lines.proofs.Added.{said, added, Behind, behind-none, behind-more}
+use Rattle.rail.specs.Words.{joined}
+use Rattle.lines.specs.Lines.{lineOf}
+use Rattle.rail.proofs.Added.{said, added, Behind, behind-none, behind-more}
 use Rattle.answers.specs.Steps.{listedBy}
 use Rattle.answers.proofs.Joined.{joined-more}
 use Rattle.answers.proofs.listed.add.Statement.{statement}

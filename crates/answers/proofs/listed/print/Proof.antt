@@ -1,6 +1,6 @@
 -- `answers::listed::print` meets its contract: the listing is measured first, and written where it has room. Assumes nothing.
 use borrow.Author.Needs.{needs}
-use Rattle.lines.proofs.Added.{kept, printed}
+use Rattle.rail.proofs.Added.{kept, printed}
 use Rattle.answers.proofs.listed.print.Statement.{statement}
 use Rattle.answers.proofs.listed.print.Tie as tie
 

@@ -4,13 +4,14 @@ use mathlib.Core.Path.{_∙_}
 use native.Mathlib.Omega.{arith}
 use Rattle.drawing.proofs.Laws.{says-within}
 use Rattle.drawing.proofs.Read.{wrong-place-is, no-such-part-yes, no-such-part-no}
+use Rattle.record.specs.Kinds.{pairGuess, numberGuess}
 use Rattle.drawing.proofs.faults.no_such_part.Statement.{statement}
 use Rattle.drawing.proofs.faults.no_such_part.Tie as tie
 
 code-at-requires : tie.Need-code-at-requires
 code-at-requires c κs =
     let s = c .before .before .before .before .before .before .before in
-    (s .pre .0, omega (arith, says-within 24 25 (c .before .before .kind-at .result) .so (c .before .if1 .taken)), omega arith)
+    (s .pre .0, omega (arith, says-within pairGuess numberGuess (c .before .before .kind-at .result) .so (c .before .if1 .taken)), omega arith)
 
 returns : tie.Need-returns
 returns c =

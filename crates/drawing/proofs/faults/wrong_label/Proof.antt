@@ -3,6 +3,7 @@ use borrow.Author.Needs.{needs}
 use mathlib.Core.Path.{_∙_}
 use Rattle.drawing.proofs.Laws.{says-within}
 use Rattle.drawing.proofs.Read.{wrong-label-yes, wrong-label-no}
+use Rattle.record.specs.Kinds.{firstRule, lastRule}
 use Rattle.drawing.proofs.faults.wrong_label.Statement.{statement}
 use Rattle.drawing.proofs.faults.wrong_label.Tie as tie
 
@@ -10,7 +11,7 @@ any-wrong-requires : tie.Need-any-wrong-requires
 any-wrong-requires c κs =
     let s = c .before .before .before .before .before .before in
     let kind = c .before .kind-at in
-    (s .pre .0, s .pre .1, says-within 4 23 (kind .result) .so (c .if1 .taken), kind .ensures)
+    (s .pre .0, s .pre .1, says-within firstRule lastRule (kind .result) .so (c .if1 .taken), kind .ensures)
 
 returns : tie.Need-returns
 returns c =

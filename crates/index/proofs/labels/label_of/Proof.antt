@@ -4,14 +4,14 @@ use mathlib.Core.Path.{_∙_}
 use Prim.Native.Nat.{_+_, _*_, _<_}
 use native.Mathlib.Omega.{arith}
 use lib.ListN.{getD}
-use Rattle.record.specs.Record.{recordBytes}
+use Rattle.record.specs.Record.{recordBytes, labelPlaces}
 use Rattle.record.proofs.Lent.{said-as}
-use Rattle.index.proofs.Drawn.{placed-few, start-zero, label-read, label-unread}
+use Rattle.index.proofs.Drawn.{placed-few, label-read, label-unread}
 use Rattle.index.proofs.labels.label_of.Statement.{statement}
 use Rattle.index.proofs.labels.label_of.Tie as tie
 
 -- the label's place
-few : (c : tie.Then1) → c .before .before .before .before .before .args .q < 4
+few : (c : tie.Then1) → c .before .before .before .before .before .args .q < labelPlaces
 few c =
     let a = c .before .before .before .before .before .args in
     placed-few (getD (a .records .now) (a .i * recordBytes + 1) 0) (getD (a .records .now) (a .i * recordBytes + 3) 0) (a .q) (c .if1 .taken)
@@ -21,20 +21,16 @@ cast-count c = omega (arith, c .shared-slice-known4 .given (c .before .before .b
 
 returns : tie.Need-returns
 returns c =
-    let a = c .before .before .before .before .before .before .before .before .args in
-    let some = label-read (a .text .now) (a .records .now) (a .i) (a .q) (c .before .before .before .before .before .before .before .before .pre) (c .before .before .before .if1 .taken) in
-    said-as (some .is) (some .starts) (rw (c .before .before .u16-at .ensures .is, c .before .u16-at2 .ensures .is) at (c .part .ensures))
+    let start = c .before .before .before .before .before .before .before .before .before .before .before .before in
+    let a = start .args in
+    let some = label-read (a .text .now) (a .records .now) (a .i) (a .q) (start .pre) (c .before .before .before .before .before .before .before .if1 .taken) in
+    said-as (some .is) (some .starts) (rw (c .before .before .before .before .u16-of .ensures, c .before .u16-of2 .ensures) at (c .part .ensures))
 
 returns-2 : tie.Need-returns-2
 returns-2 c =
     let a = c .before .before .before .before .before .before .args in
     let none = label-unread (a .text .now) (a .records .now) (a .i) (a .q) (c .before .before .before .before .before .before .pre) (c .before .if1 .left) in
-    said-as (none .is) (start-zero (a .text .now) ∙ none .starts) (c .part2 .ensures)
+    said-as (none .is) (none .starts) (c .part2 .ensures)
 
 pub label-of-spec : {M : Type 1} → statement M
-label-of-spec =
-    tie.close (
-    tie.spec (λ c. search needs) (λ c. search needs) (λ c. search needs) (λ c. search needs) (λ c. search needs) cast-count (λ c. search needs)
-    (λ c. omega (arith, few c)) (λ c. omega (arith, few c)) (λ c κs. omega (arith, few c)) (λ c. omega (arith, few (c .before)))
-    (λ c κs. omega (arith, few (c .before))) (λ c κs. search needs) (λ c κs. search needs) returns returns-2
-    )
+label-of-spec = tie.close (tie.spec (λ c. search needs) (λ c. search needs) (λ c. search needs) (λ c. search needs) (λ c. search needs) cast-count (λ c. omega (arith, few c)) (λ c. omega (arith, few c)) (λ c. omega (arith, few c)) (λ c. omega (arith, few c)) (λ c. omega (arith, few (c .before))) (λ c. omega (arith, few (c .before))) (λ c. omega (arith, few (c .before .before))) (λ c κs. search needs) (λ c. search needs) (λ c. omega (arith, few (c .before .before .before .before))) (λ c. omega (arith, few (c .before .before .before .before))) (λ c. omega (arith, few (c .before .before .before .before .before))) (λ c κs. search needs) (λ c. search needs) (λ c κs. search needs) (λ c κs. search needs) returns returns-2)

@@ -2,7 +2,7 @@
 use borrow.Author.Needs.{needs}
 use mathlib.Core.Path.{_∙_}
 use Rattle.record.proofs.Cells.{thirds-is, number-is}
-use Rattle.lines.proofs.Added.{both, said}
+use Rattle.rail.proofs.Added.{both, said}
 use Rattle.lines.proofs.Spaced.{no-third, some-third}
 use Rattle.lines.proofs.words.from_third.Statement.{statement}
 use Rattle.lines.proofs.words.from_third.Tie as tie

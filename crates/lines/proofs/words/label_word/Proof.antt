@@ -1,6 +1,6 @@
 -- `lines::words::label_word` meets its contract: the word is the part of the text that the label names. Assumes nothing.
 use borrow.Author.Needs.{needs}
-use Rattle.lines.proofs.Added.{said}
+use Rattle.rail.proofs.Added.{added, said}
 use Rattle.lines.proofs.Spaced.{label-is}
 use Rattle.lines.proofs.words.label_word.Statement.{statement}
 use Rattle.lines.proofs.words.label_word.Tie as tie
@@ -8,7 +8,7 @@ use Rattle.lines.proofs.words.label_word.Tie as tie
 returns : tie.Need-returns
 returns c =
     let a = c .before .before .before .before .before .before .before .before .before .before .args in
-    said (c .before .before .word .ensures) (label-is (a .text .now) (a .r) (a .q) (c .before .before .before .before .before .inside .result) (c .before .before .before .before .before .before .before .start-of .ensures) (c .before .before .before .before .before .before .len-of .ensures) (c .before .before .before .before .before .inside .ensures))
+    said (added (c .before .before .word .ensures)) (label-is (a .text .now) (a .r) (a .q) (c .before .before .before .before .before .inside .result) (c .before .before .before .before .before .before .before .start-of .ensures) (c .before .before .before .before .before .before .len-of .ensures) (c .before .before .before .before .before .inside .ensures))
 
 pub label-word-spec : {M : Type 1} → statement M
 label-word-spec = tie.close (tie.spec (λ c κs. search needs) (λ c κs. search needs) (λ c κs. search needs) (λ c. search needs) (λ c. search needs) (λ c. search needs) (λ c κs. search needs) (λ c. search needs) returns)

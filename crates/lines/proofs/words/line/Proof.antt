@@ -1,6 +1,6 @@
 -- `lines::words::line` meets its contract: the opening and what follows are added one after the other. Assumes nothing.
 use borrow.Author.Needs.{needs}
-use Rattle.lines.proofs.Added.{both, said}
+use Rattle.rail.proofs.Added.{both, said}
 use Rattle.lines.proofs.Spaced.{line-is}
 use Rattle.lines.proofs.words.line.Statement.{statement}
 use Rattle.lines.proofs.words.line.Tie as tie

@@ -7,10 +7,10 @@ use native.Mathlib.Omega.{arith}
 use lib.ListN.{length}
 use borrow.Author.Needs.{needs}
 use Rattle.record.specs.Entry.{named, upTo}
-use Rattle.lines.specs.declared.Place.{Place}
-use Rattle.lines.specs.Lines.{spaced}
-use Rattle.lines.specs.Rail.{Adds}
-use Rattle.lines.proofs.Added.{both, said}
+use Rattle.rail.specs.declared.Place.{Place}
+use Rattle.rail.specs.Words.{spaced}
+use Rattle.rail.specs.Steps.{Adds}
+use Rattle.rail.proofs.Added.{added, both, said}
 use Rattle.lines.proofs.Spaced.{label-more}
 use Rattle.lines.proofs.words.opening.Statement.{statement}
 use Rattle.lines.proofs.words.opening.Tie as tie
@@ -38,7 +38,7 @@ returns : tie.Need-returns Inv-loop μ-loop
 returns c =
     let l = c .before .loop in
     let e : l .q ≡ c .before .before .before .before .before .before .before .before .before .before .args .r .count = omega arith in
-    said (l .inv .2 _ _ _ (c .before .before .before .before .before .decimal .ensures)) (rw e)
+    said (l .inv .2 _ _ _ (added (c .before .before .before .before .before .decimal .ensures))) (rw e)
 
 pub opening-spec : {M : Type 1} → statement M
 opening-spec = tie.close (tie.spec Inv-loop μ-loop (λ c. search needs) (λ c κs. search needs) (λ c. search needs) loop-holds (λ c κs. search needs) (λ c. omega arith) (λ c. omega arith) loop-again (λ c. search needs) returns)

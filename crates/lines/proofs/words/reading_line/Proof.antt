@@ -1,7 +1,7 @@
 -- `lines::words::reading_line` meets its contract: one line for each case. Assumes nothing.
 use borrow.Author.Needs.{needs}
 use Rattle.lines.specs.Lines.{firstLine}
-use Rattle.lines.proofs.Added.{said}
+use Rattle.rail.proofs.Added.{said}
 use Rattle.lines.proofs.words.reading_line.Statement.{statement}
 use Rattle.lines.proofs.words.reading_line.Tie as tie
 

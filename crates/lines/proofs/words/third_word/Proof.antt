@@ -1,7 +1,7 @@
 -- `lines::words::third_word` meets its contract: by the test of the sort of number. Assumes nothing.
 use borrow.Author.Tests.{eq-eqb, ne-eqb}
 use borrow.Author.Needs.{needs}
-use Rattle.lines.proofs.Added.{said}
+use Rattle.rail.proofs.Added.{said}
 use Rattle.lines.proofs.words.third_word.Statement.{statement}
 use Rattle.lines.proofs.words.third_word.Tie as tie
 

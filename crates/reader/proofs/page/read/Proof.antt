@@ -5,13 +5,13 @@ use Rattle.reader.proofs.page.read.Statement.{statement}
 use Rattle.reader.proofs.page.read.Tie as tie
 
 returns : tie.Need-returns
-returns c = let a = c .before .before .before .args in too-long (a .whole) (a .text .now) (a .records .now) (c .if1 .taken)
+returns c = let a = c .before .before .before .before .args in rw (c .refused .ensures) (too-long (a .whole) (a .text .now) (a .records .now) (c .before .if1 .taken))
 
 returns-2 : tie.Need-returns-2
 returns-2 c =
-    let a = c .before .before .before .before .before .args in
-    let h = c .before .high-at in
-    high (a .whole) (a .text .now) (a .records .now) (c .before .before .if1 .left) (h .result) (h .ensures) (c .if2 .taken)
+    let a = c .before .before .before .before .before .before .args in
+    let h = c .before .before .high-at in
+    rw (c .refused2 .ensures) (high (a .whole) (a .text .now) (a .records .now) (c .before .before .before .if1 .left) (h .result) (h .ensures) (c .before .if2 .taken))
 
 returns-3 : tie.Need-returns-3
 returns-3 c =
@@ -22,4 +22,4 @@ returns-3 c =
     (c .before .before .before .before .if2 .left) (r .ensures)
 
 pub read-spec : {M : Type 1} → statement M
-read-spec = tie.close (tie.spec returns (λ c κs. search needs) returns-2 (λ c κs. search needs) (λ c. search needs) returns-3)
+read-spec = tie.close (tie.spec (λ c κs. search needs) returns (λ c κs. search needs) (λ c κs. search needs) returns-2 (λ c κs. search needs) (λ c. search needs) returns-3)

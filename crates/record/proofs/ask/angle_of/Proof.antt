@@ -3,8 +3,8 @@ use borrow.Author.Needs.{needs}
 use mathlib.Core.Path.{_≡_, sym, ap, _∙_}
 use Prim.Native.Nat.{ℕ}
 use Rattle.record.specs.declared.ask.Asked.the-variants as asked
+use Rattle.record.specs.Steps.{goodKind}
 use Rattle.record.specs.Kinds.{kindAt, angle}
-use Rattle.record.specs.Sound.{goodKind}
 use Rattle.record.specs.Ask.{angleIn}
 use Rattle.record.proofs.Cells.{number-is}
 use Rattle.record.proofs.Asked.{angle-good, no-angle, some-angle}
@@ -23,7 +23,7 @@ is-angle : (c : tie.Else1) → kindAt (goodKind (start (c .before) .args .text .
 is-angle c = sym (sort-is (c .before)) ∙ c .if1 .left
 
 returns : tie.Need-returns
-returns c = no-angle _ _ (λ e. c .if1 .taken (sort-is (c .before) ∙ e))
+returns c = ap asked.Refused (c .malformed-at .ensures) ∙ no-angle _ _ (λ e. c .before .if1 .taken (sort-is (c .before .before) ∙ e))
 
 fields-requires : tie.Need-fields-requires
 fields-requires c κs = angle-good _ _ (is-angle c) .framed .whole
@@ -33,4 +33,4 @@ returns-2 c =
     ap asked.Angle (c .angle-in .ensures ∙ ap angleIn (c .before .fields .ensures)) ∙ some-angle _ _ (is-angle (c .before .before))
 
 pub angle-of-spec : {M : Type 1} → statement M
-angle-of-spec = tie.close (tie.spec (λ c κs. search needs) (λ c κs. search needs) returns fields-requires (λ c κs. search needs) returns-2)
+angle-of-spec = tie.close (tie.spec (λ c κs. search needs) (λ c κs. search needs) (λ c κs. search needs) returns fields-requires (λ c κs. search needs) returns-2)

@@ -3,8 +3,9 @@ use borrow.Author.Needs.{needs}
 use mathlib.Core.Path.{sym, _∙_}
 use Prim.Native.Nat.{_<_}
 use native.Mathlib.Omega.{arith}
-use Rattle.record.specs.Sound.{labelPlaces, Good}
-use Rattle.record.proofs.Asked.{good-of-kind, bad-of-kind, no-record, no-label, some-place, some-inside, some-label}
+use Rattle.record.specs.Record.{labelPlaces}
+use Rattle.record.specs.Sound.{Good}
+use Rattle.record.proofs.Asked.{good-of-kind, bad-of-kind, no-record, no-label, some-place, some-label}
 use Rattle.record.proofs.ask.part_of.Statement.{statement}
 use Rattle.record.proofs.ask.part_of.Tie as tie
 
@@ -16,26 +17,13 @@ good : (c : tie.Else1) → Good (c .before .before .before .before .before .args
 good c = good-of-kind _ _ (λ e. c .if1 .left (c .before .good-kind .ensures ∙ e))
 
 returns-2 : tie.Need-returns-2
-returns-2 c = no-label _ _ _ (good (c .before .before .before)) _ (c .before .before .fields .ensures) (omega (arith, c .if2 .taken))
+returns-2 c = no-label _ _ _ (good (c .before .before)) _ (c .before .fields .ensures) (omega (arith, c .if2 .taken))
 
-place : (c : tie.Else2) → c .before .before .before .before .before .before .before .before .args .q < labelPlaces
-place c = some-place _ _ _ (good (c .before .before .before)) _ (c .before .before .fields .ensures) (c .if2 .left)
+place : (c : tie.Else2) → c .before .before .before .before .before .before .before .args .q < labelPlaces
+place c = some-place _ _ _ (good (c .before .before)) _ (c .before .fields .ensures) (c .if2 .left)
 
 returns-3 : tie.Need-returns-3
-returns-3 c = some-label _ _ _ (good (c .before .before .before)) _ (c .before .before .fields .ensures) (c .if2 .left)
+returns-3 c = some-label _ _ _ (good (c .before .before .before)) _ (c .before .before .fields .ensures) (c .before .if2 .left)
 
 pub part-of-spec : {M : Type 1} → statement M
-part-of-spec =
-    tie.close
-    (tie.spec
-    (λ c κs. search needs)
-    returns
-    (λ c κs. good c .framed .whole)
-    (λ c. search needs)
-    returns-2
-    (λ c. search needs)
-    place
-    (λ c. search needs)
-    place
-    (λ c. omega (arith, some-inside _ _ _ (good (c .before .before .before)) _ (c .before .before .fields .ensures) (c .if2 .left)))
-    returns-3)
+part-of-spec = tie.close (tie.spec (λ c κs. search needs) returns (λ c κs. good c .framed .whole) (λ c. search needs) returns-2 (λ c. omega (arith, place c)) place returns-3)

@@ -8,7 +8,7 @@ use Rattle.record.proofs.decode.decode_record.Tie as tie
 
 returns : tie.Need-returns
 unfolding decodeAt
-returns c = rw (le-ltb _ _ (c .if1 .taken))
+returns c = rw (le-ltb _ _ (c .before .if1 .taken)) (c .no-record .ensures)
 
 returns-2 : tie.Need-returns-2
 unfolding decodeAt
@@ -17,4 +17,4 @@ returns-2 c =
     rw (lt-ltb _ _ (c .before .before .if1 .left), ← part-is (a .records .now) (a .i)) (c .fields .ensures)
 
 pub decode-record-spec : {M : Type 1} → statement M
-decode-record-spec = tie.close (tie.spec returns (λ c. search needs) (λ c. search needs) (λ c. search needs) (λ c. search needs) (λ c. search needs) (λ c κs. search needs) returns-2)
+decode-record-spec = tie.close (tie.spec (λ c κs. search needs) returns (λ c. search needs) (λ c. search needs) (λ c. search needs) (λ c. search needs) (λ c. search needs) (λ c κs. search needs) returns-2)

@@ -4,8 +4,9 @@ use borrow.Author.Needs.{needs}
 use mathlib.Core.Path.{_≡_, sym, ap, _∙_}
 use Prim.Native.Nat.{_-_, _≤_}
 use native.Mathlib.Omega.{arith}
+use Rattle.record.specs.Steps.{goodKind}
+use Rattle.record.specs.declared.formed.Formed.the-variants as formed
 use Rattle.record.specs.Decode.{recordOf}
-use Rattle.record.specs.Sound.{goodKind}
 use Rattle.record.specs.Formed.{entries}
 use Rattle.record.proofs.Back.{part-is}
 use Rattle.record.proofs.Entries.{over}
@@ -20,10 +21,10 @@ abbrev μ-loop : tie.MeasureT-loop
 μ-loop text records n kinds guessed₀ i₀ guessed i = n - i
 
 returns : tie.Need-returns Inv-loop μ-loop
-returns c = over _ _ (λ short few. omega (arith, c .if1 .taken, short))
+returns c = ap formed.Refused (c .malformed-at .ensures) ∙ over _ _ (λ short few. omega (arith, c .before .if1 .taken, short))
 
 returns-2 : tie.Need-returns-2 Inv-loop μ-loop
-returns-2 c = over _ _ (λ short few. omega (arith, c .if2 .taken, few))
+returns-2 c = ap formed.Refused (c .malformed-at2 .ensures) ∙ over _ _ (λ short few. omega (arith, c .before .if2 .taken, few))
 
 loop-holds : tie.Need-loop-holds Inv-loop μ-loop
 loop-holds c = (omega arith, start _)
@@ -38,10 +39,12 @@ kind-is c = c .good-kind .ensures ∙ ap (goodKind (start-at c .args .text .now)
 
 returns-3 : tie.Need-returns-3 Inv-loop μ-loop
 returns-3 c =
-    let a = start-at (c .before .before) .args in
-    let l = c .before .before .before .before .before .before .loop in
-    fault (a .text .now) (a .records .now) (omega arith) (omega arith) (l .i) (l .guessed) (l .inv .1) (omega arith) (c .before .before .good-kind .result) (kind-is (c .before .before))
-    (sym (c .before .at-fault .ensures) ∙ c .if3 .taken)
+    let d = c .before .before .before in
+    let a = start-at d .args in
+    let l = d .before .before .before .before .loop in
+    ap formed.Refused (c .malformed-at3 .ensures)
+    ∙ fault (a .text .now) (a .records .now) (omega arith) (omega arith) (l .i) (l .guessed) (l .inv .1) (omega arith) (d .good-kind .result) (kind-is d)
+    (sym (c .before .before .at-fault .ensures) ∙ c .before .if3 .taken)
 
 loop-again : tie.Need-loop-again Inv-loop μ-loop
 loop-again c =
@@ -54,9 +57,10 @@ loop-again c =
 
 returns-4 : tie.Need-returns-4 Inv-loop μ-loop
 returns-4 c =
-    let a = c .before .before .before .before .before .before .before .args in
-    let l = c .before .before .loop in
-    end-fault (a .text .now) (a .records .now) (omega arith) (omega arith) (l .i) (l .guessed) (l .inv .1) (omega arith) (c .if4 .taken)
+    let a = c .before .before .before .before .before .before .before .before .args in
+    let l = c .before .before .before .loop in
+    ap formed.Refused (c .malformed-at4 .ensures)
+    ∙ end-fault (a .text .now) (a .records .now) (omega arith) (omega arith) (l .i) (l .guessed) (l .inv .1) (omega arith) (c .before .if4 .taken)
 
 returns-5 : tie.Need-returns-5 Inv-loop μ-loop
 returns-5 c =
@@ -65,4 +69,4 @@ returns-5 c =
     end-good (a .text .now) (a .records .now) (omega arith) (omega arith) (l .i) (l .guessed) (l .inv .1) (omega arith) (c .if4 .left)
 
 pub well-formed-spec : {M : Type 1} → statement M
-well-formed-spec = tie.close (tie.spec Inv-loop μ-loop returns returns-2 loop-holds (λ c. omega arith) (λ c. omega arith) (λ c. omega arith) (λ c. omega arith) (λ c. omega arith) (λ c κs. search needs) (λ c κs. search needs) returns-3 (λ c. omega arith) (λ c. omega arith) loop-again returns-4 returns-5)
+well-formed-spec = tie.close (tie.spec Inv-loop μ-loop (λ c κs. search needs) returns (λ c κs. search needs) returns-2 loop-holds (λ c. omega arith) (λ c. omega arith) (λ c. omega arith) (λ c. omega arith) (λ c. omega arith) (λ c κs. search needs) (λ c κs. search needs) (λ c κs. search needs) returns-3 (λ c. omega arith) (λ c. omega arith) loop-again (λ c κs. search needs) returns-4 returns-5)

@@ -12,4 +12,4 @@ returns c =
     rw (eq-eqb _ _ (s .pre .0), ← s .pre .1) (cc)
 
 pub framed-spec : {M : Type 1} → statement M
-framed-spec = tie.close (tie.spec (λ c. search needs) (λ c κs. search needs) (λ c κs. search needs) returns)
+framed-spec = tie.close (tie.spec (λ c. search needs) (λ c. search needs) (λ c κs. search needs) (λ c κs. search needs) returns)

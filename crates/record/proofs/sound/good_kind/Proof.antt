@@ -6,9 +6,10 @@ use mathlib.Core.Path.{sym, ap, _∙_}
 use mathlib.Core.Bool.{_&&_}
 use native.Mathlib.Omega.{arith}
 use Rattle.refusal.proofs.Says.{Says, fails}
+use Rattle.record.specs.Steps.{spelledAll}
 use Rattle.record.specs.declared.Record.{Record}
 use Rattle.record.specs.Kinds.{with-point}
-use Rattle.record.specs.Sound.{Framed, Good, spelledAll}
+use Rattle.record.specs.Sound.{Framed, Good}
 use Rattle.record.proofs.Cells.{looked-same, dotted-is}
 use Rattle.record.proofs.Agree.{says-framed, says-fields, kind-of-bad, kind-of-good}
 use Rattle.record.proofs.sound.good_kind.Statement.{statement}

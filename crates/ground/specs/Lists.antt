@@ -1,0 +1,13 @@
+-- Lists put together from parts.
+use mathlib.Core.List.{List, [], _∷_, _++_}
+use Prim.Native.Nat.{ℕ, zero, suc, _+_}
+
+-- what f makes of each, one after another
+abbrev pub flat : {A B : Type 0} → (A → List B) → List A → List B
+flat f [] = []
+flat f (x ∷ xs) = f x ++ flat f xs
+
+-- f 0 and so on, n of them, added up
+abbrev pub sumTo : (ℕ → ℕ) → ℕ → ℕ
+sumTo f zero = 0
+sumTo f (suc n) = sumTo f n + f n

@@ -1,0 +1,27 @@
+-- `lowering::rules::append` meets its contract: after k turns the first k of the ids are in their places. Assumes nothing.
+use Rattle.lowering.proofs.Naming.{Appending, append-start, append-turn, append-end}
+use native.Mathlib.Omega.{arith}
+use borrow.Author.Needs.{needs}
+use Prim.Native.Nat.{_-_}
+use Rattle.lowering.proofs.rules.append.Statement.{statement}
+use Rattle.lowering.proofs.rules.append.Tie as tie
+
+abbrev Inv-loop : tie.InvT-loop
+Inv-loop out₀ m first count six k₀ out k = Appending out₀ m six first count out k
+
+abbrev μ-loop : tie.MeasureT-loop
+μ-loop out₀ m first count six k₀ out k = count - k
+
+loop-holds : tie.Need-loop-holds Inv-loop μ-loop
+loop-holds c = append-start
+
+loop-again : tie.Need-loop-again Inv-loop μ-loop
+loop-again c = append-turn (c .before .loop .inv) (omega arith) (omega arith) (omega arith)
+
+returns : tie.Need-returns Inv-loop μ-loop
+returns c = append-end (c .before .loop .inv) (omega arith) (omega arith)
+
+pub append-spec : {M : Type 1} → statement M
+append-spec =
+    tie.close (tie.spec Inv-loop μ-loop loop-holds (λ c. search needs) (λ c. search needs) (λ c. search needs) (λ c. search needs) (λ c. search needs)
+    (λ c. search needs) (λ c. search needs) (λ c. search needs) loop-again (λ c. search needs) returns)

@@ -1,0 +1,33 @@
+-- What the code of the record goes by, step by step. It need not be read: each is said of what Sound, Formed and Ask define.
+use mathlib.Core.Path.{_≡_}
+use mathlib.Core.Bool.{Bool, not, _&&_, _||_, cond}
+use mathlib.Core.List.{List}
+use Prim.Native.Nat.{ℕ, _+_, _≤_}
+use lib.Dec.{ltb, eqb}
+use lib.ListN.{length}
+use Rattle.refusal.specs.First.{allBelow}
+use Rattle.record.specs.declared.View.{View}
+use Rattle.record.specs.declared.Record.{Record}
+use Rattle.record.specs.Record.{labelPlaces}
+use Rattle.record.specs.Decode.{isGuess, decode}
+use Rattle.record.specs.Entry.{part, named}
+use Rattle.record.specs.Sound.{spelledTest, goodTest}
+use Rattle.record.specs.Ask.{labelOf, labelFrom}
+
+-- each label of a record is spelled as one
+abbrev pub spelledAll : List ℕ → Record → Bool → Bool
+spelledAll text r dotted = allBelow labelPlaces (λ q. not (ltb q (r .count)) || spelledTest dotted (named text r q))
+
+-- the kind of a good record, and 0 of any other bytes
+unfoldable pub goodKind : List ℕ → List ℕ → ℕ
+goodKind text b = cond (goodTest text b) (decode b .kind) 0
+
+-- a record is bad or not in its place, by the kind of a good record, which is 0 for a bad one
+abbrev pub misplaced : ℕ → ℕ → Bool → Bool
+misplaced kind i behind-guess = eqb kind 0 || ((eqb i 0 && isGuess kind) || (not (isGuess kind) && behind-guess))
+
+-- a view that lies inside the text, starts where label q of a record does and names that label
+pub record Names (text b : List ℕ) (q : ℕ) (v : View) : Type 0 where
+  pub inside : v .start + v .len ≤ length text
+  pub starts : v .start ≡ labelFrom text b q
+  pub is : part text (v .start) (v .len) ≡ labelOf text b q

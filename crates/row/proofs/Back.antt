@@ -1,0 +1,53 @@
+-- A row has 44 bytes and comes back whole from them: each id from four bytes, and the number from eight. Assumes nothing.
+use mathlib.Core.Path.{_≡_, refl, sym, ap, _∙_}
+use mathlib.Core.List.{List, [], _∷_}
+use Prim.Native.Nat.{ℕ, zero, suc, _^_, _<_}
+use native.Mathlib.Omega.{arith}
+use lib.ListN.{length, getD}
+use borrow.Author.Tests.{le-ltb}
+use Rattle.bytes.specs.Little.{u64}
+use Rattle.bytes.proofs.Little.{number-le}
+use Rattle.record.specs.Entry.{upTo}
+use Rattle.record.proofs.UpTo.{getD-up-to}
+use Rattle.row.specs.Row.{Row, rowBytes, mostIds, eight, held, bytesOf, encodeRow, idAt, heldIn, meant, decodeRow, RowFits}
+
+pub length-row : (r : Row) → length (encodeRow r) ≡ rowBytes
+unfolding encodeRow bytesOf
+length-row r = refl
+
+-- a list by what stands at its places
+up-to-list : (l : List ℕ) (f : ℕ → ℕ) → ((q : ℕ) → q < length l → f q ≡ getD l q 0) → upTo (length l) f ≡ l
+up-to-list [] f h = refl
+up-to-list (x ∷ l) f h = rw (h zero (omega arith)) (ap (λ (t : List ℕ). x ∷ t) (up-to-list l (λ q. f (suc q)) (λ q b. h (suc q) (omega arith))))
+
+module _ (r : Row) where
+  -- id q of eight
+  eight-at : (q : ℕ) → q < mostIds → getD (eight (r .ids)) q 0 ≡ getD (r .ids) q 0
+  eight-at q b = getD-up-to mostIds (λ q. getD (r .ids) q 0) q 0 b
+
+  bits-back : r .bits < 2 ^ 64 → u64 (encodeRow r) 36 ≡ r .bits
+  unfolding encodeRow bytesOf
+  bits-back fit = number-le 8 (r .bits) fit
+
+  module _ (fits : (q : ℕ) → getD (r .ids) q 0 < 2 ^ 32) where
+    ids-back : upTo mostIds (idAt (encodeRow r)) ≡ eight (r .ids)
+    unfolding encodeRow bytesOf
+    ids-back = λ i. upTo mostIds (λ q. number-le 4 (getD (r .ids) q 0) (fits q) i)
+
+    -- id q, and 0 past the last
+    pub id-read : (q : ℕ) → q < mostIds → idAt (encodeRow r) q ≡ getD (r .ids) q 0
+    id-read q b = sym (getD-up-to mostIds (idAt (encodeRow r)) q 0 b) ∙ ap (λ (l : List ℕ). getD l q 0) ids-back ∙ eight-at q b
+
+  module _ (fits : RowFits r) where
+    fields-back : heldIn (encodeRow r) ≡ held r
+    unfolding heldIn encodeRow bytesOf
+    fields-back =
+        λ i. record { kind = r .kind; third = r .third; count = length (r .ids); ids = ids-back (fits .ids-fit) i; bits = bits-back (fits .bits-fit) i }
+
+    pub decode-encode-row : decodeRow (encodeRow r) ≡ r
+    unfolding meant
+    decode-encode-row =
+        ap meant fields-back
+        ∙ rw (le-ltb mostIds (length (r .ids)) (fits .few))
+        (ap (λ (l : List ℕ). record { kind = r .kind; third = r .third; ids = l; bits = r .bits })
+        (up-to-list (r .ids) (λ q. getD (eight (r .ids)) q 0) (λ q b. eight-at q (omega (arith, b, fits .few)))))

@@ -1,0 +1,12 @@
+-- The promise of each public function, as its source states it, determines the answer: each is an equation. Assumes nothing.
+use Rattle.ground.proofs.Determined.{Determined, by-equation}
+use Rattle.row.proofs.encode_row.Kinds as encode-row-kinds
+use Rattle.row.proofs.encode_row.Reads as encode-row
+use Rattle.row.proofs.decode_row.Kinds as decode-row-kinds
+use Rattle.row.proofs.decode_row.Reads as decode-row
+
+pub encode-row-only : Determined 0 encode-row-kinds.ps encode-row-kinds.r encode-row.Post
+encode-row-only κs a x y e f p q = by-equation p q
+
+pub decode-row-only : Determined 1 decode-row-kinds.ps decode-row-kinds.r decode-row.Post
+decode-row-only κs a x y e f p q = by-equation p q

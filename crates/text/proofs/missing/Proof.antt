@@ -1,0 +1,14 @@
+-- `text::missing` meets its contract: it goes by whether reading stands at a place. Assumes nothing.
+use borrow.Author.Needs.{needs}
+use Rattle.text.proofs.Laws.{handed}
+use Rattle.text.proofs.missing.Statement.{statement}
+use Rattle.text.proofs.missing.Tie as tie
+
+returns : tie.Need-returns
+returns c = handed (c .before .args .stand) _ _ (c .match .keys2)
+
+returns-2 : tie.Need-returns-2
+returns-2 c = rw (c .before .stand .given .1)
+
+pub missing-spec : {M : Type 1} → statement M
+missing-spec = tie.close (tie.spec (λ c. search needs) returns returns-2)
