@@ -21,7 +21,7 @@ use Rattle.record.specs.declared.ask.Asked.the-variants as asked
 use Rattle.lowering.specs.declared.Lowered.{Lowered}
 use Rattle.lowering.specs.declared.Lowered.the-variants as lowered
 use Rattle.layout.specs.declared.Layout.{Layout}
-use Rattle.layout.specs.declared.Refusal.{Refusal}
+use Rattle.refusal.specs.declared.Refusal.{Refusal}
 use Rattle.layout.specs.declared.Pushed.{Pushed}
 use Rattle.layout.specs.declared.Pushed.the-variants as pushed
 use Rattle.layout.specs.declared.Stepped.{Stepped}
@@ -39,7 +39,6 @@ use Rattle.layout.specs.declared.CircleRead.the-variants as CR
 use Rattle.layout.specs.declared.ArcRead.{ArcRead}
 use Rattle.layout.specs.declared.ArcRead.the-variants as AR
 use Rattle.layout.specs.Slots.{stageNumber}
-use Rattle.layout.specs.Refusals.{number}
 
 -- ---- codes and numbers
 
@@ -60,9 +59,9 @@ good parts = record { code = 0; parts = parts }
 abbrev pub refused : ℕ → ℕ → Told
 refused number place = record { code = number; parts = at place }
 
--- a refusal of a layout, whose place is 0
-abbrev pub not-laid : Refusal → Told
-not-laid r = refused (number r) 0
+-- the same, of a refusal
+abbrev pub refusedAs : Refusal → Told
+refusedAs r = refused (r .number) (r .place)
 
 -- a code and numbers that tell an answer which the library's promise allows
 pub record Tells {A : Type 0} (promise : A → Type 0) (told : A → Told) (code : ℕ) (parts : List ℕ) : Type 0 where
@@ -119,39 +118,39 @@ askedTold (asked.Refused number place) = refused number place
 -- a push: the layout and the next id
 abbrev pub pushedTold : Pushed → Told
 pushedTold (pushed.Good layout next) = good (layoutParts layout next 0)
-pushedTold (pushed.Refused r) = not-laid r
+pushedTold (pushed.Refused r) = refusedAs r
 
 -- a step to the next stage
 abbrev pub steppedTold : Stepped → Told
 steppedTold (stepped.Good layout) = good (layoutParts layout 0 0)
-steppedTold (stepped.Refused r) = not-laid r
+steppedTold (stepped.Refused r) = refusedAs r
 
 -- the ids of a point: of x and y
 abbrev pub pointIdsTold : PointIds → Told
 pointIdsTold (PI.Found v) = good (v .x ∷ v .y ∷ 0 ∷ 0 ∷ 0 ∷ 0 ∷ [])
-pointIdsTold (PI.Refused r) = not-laid r
+pointIdsTold (PI.Refused r) = refusedAs r
 
 -- the ids of a circle: of the center's x and y, and of the radius
 abbrev pub circleIdsTold : CircleIds → Told
 circleIdsTold (CI.Found v) = good (v .center .x ∷ v .center .y ∷ v .radius ∷ 0 ∷ 0 ∷ 0 ∷ [])
-circleIdsTold (CI.Refused r) = not-laid r
+circleIdsTold (CI.Refused r) = refusedAs r
 
 -- the ids of an arc: of x and y of its start, its end and its center
 abbrev pub arcIdsTold : ArcIds → Told
 arcIdsTold (AI.Found v) = good (v .start .x ∷ v .start .y ∷ v .end .x ∷ v .end .y ∷ v .center .x ∷ v .center .y ∷ [])
-arcIdsTold (AI.Refused r) = not-laid r
+arcIdsTold (AI.Refused r) = refusedAs r
 
 -- a point read out: the bits of x and y
 abbrev pub pointTold : PointRead → Told
 pointTold (PR.Found p) = good (bitsOf (p .x) ∷ bitsOf (p .y) ∷ 0 ∷ 0 ∷ 0 ∷ 0 ∷ [])
-pointTold (PR.Refused r) = not-laid r
+pointTold (PR.Refused r) = refusedAs r
 
 -- a circle read out: the bits of the center's x and y, and of the radius
 abbrev pub circleTold : CircleRead → Told
 circleTold (CR.Found c) = good (bitsOf (c .center .x) ∷ bitsOf (c .center .y) ∷ bitsOf (c .radius) ∷ 0 ∷ 0 ∷ 0 ∷ [])
-circleTold (CR.Refused r) = not-laid r
+circleTold (CR.Refused r) = refusedAs r
 
 -- an arc read out: the bits of x and y of a, b and the center
 abbrev pub arcTold : ArcRead → Told
 arcTold (AR.Found a) = good (bitsOf (a .a .x) ∷ bitsOf (a .a .y) ∷ bitsOf (a .b .x) ∷ bitsOf (a .b .y) ∷ bitsOf (a .center .x) ∷ bitsOf (a .center .y) ∷ [])
-arcTold (AR.Refused r) = not-laid r
+arcTold (AR.Refused r) = refusedAs r
