@@ -31,7 +31,7 @@ use Rattle.ground.specs.Lists.{flat}
 use Rattle.row.specs.Row.{mostIds, rowBytes, eight, bytesOf, encodeRow}
 use Rattle.lowering.specs.Rows.{Naming, namingOf}
 use Rattle.lowering.specs.Lower.{onto}
-use Rattle.lowering.specs.Steps.{namingBy, spanOf, sixOf, numberNo, spanIds, labelIds, rowIds, rowAt, rowIf, rowsBelow, Tables, Addable, Added, Sayable, Begins, Writing, Wrote, Writable}
+use Rattle.lowering.specs.Steps.{namingBy, spanOf, sixOf, numberNo, spanIds, labelIds, rowIds, rowAt, rowIf, rowsBelow, RowTables, Addable, Added, Sayable, Begins, Writing, Wrote, Writable}
 use Rattle.ground.proofs.Pieces.{flat-suc, flat-append}
 use Rattle.lowering.proofs.Counts.{says-within}
 use Rattle.row.proofs.Back.{length-row}
@@ -81,7 +81,7 @@ module _ (text records : List ℕ) (i : ℕ) (r : Record) (e : r ≡ decodeAt re
 
 -- the shape that a label names has a number
 pub shape-in : (es : List Entry) (chains numbers : List ℕ) (l : Layout) (ids : List ℕ) (naming : Naming) (third : ℕ) (label : Label) (out : List ℕ) (m : ℕ)
-    → Tables es chains numbers → Addable es l ids naming third label out m → (s : Span) → s ≡ spanOf es naming third label → s .shape < length numbers
+    → RowTables es chains numbers → Addable es l ids naming third label out m → (s : Span) → s ≡ spanOf es naming third label → s .shape < length numbers
 shape-in es chains numbers l ids naming third label out m t a s e = rw e (omega (arith, a .found, t .long))
 
 module _ (es : List Entry) (l : Layout) (ids : List ℕ) (naming : Naming) (third : ℕ) (label : Label) (s : Span) (s-is : s ≡ spanOf es naming third label) where

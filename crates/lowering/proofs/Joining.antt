@@ -18,7 +18,7 @@ use Rattle.drawing.specs.Check.{countBelow}
 use Rattle.drawing.proofs.Laws.{count-kinds}
 use Rattle.lowering.specs.Slots.{slots, layoutOf}
 use Rattle.lowering.specs.Lower.{onto}
-use Rattle.lowering.specs.Steps.{laid, rowsBelow, Tables, Writable, Slotted, Passing, Filled}
+use Rattle.lowering.specs.Steps.{laid, rowsBelow, RowTables, Writable, Slotted, Passing, Filled}
 use Rattle.lowering.proofs.Pushing.{laid-is}
 use Rattle.lowering.proofs.Tied.{writable, rows-are}
 
@@ -26,7 +26,7 @@ use Rattle.lowering.proofs.Tied.{writable, rows-are}
 
 pub tables-are : (text records chains numbers : List ℕ) → Chained (drawn text records) newPoint newArc chains → length (drawn text records) ≤ length numbers
     → EachBelow (countOf records) (λ i. getD numbers i 0 ≡ countBelow (λ j. decodeAt records j .kind) (decodeAt records i .kind) (decodeAt records i .kind) i)
-    → Tables (drawn text records) chains numbers
+    → RowTables (drawn text records) chains numbers
 tables-are text records chains numbers c long each = record {
   chained = c;
   long = long;

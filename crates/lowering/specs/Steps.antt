@@ -209,7 +209,7 @@ rowsBelow es l ids (suc i) = rowsBelow es l ids i ++ rowIf es l ids i
 -- ---- what the steps ask, and give
 
 -- the declarations by their labels, and each entry's number among those of its kind
-pub record Tables (es : List Entry) (chains numbers : List ℕ) : Type 0 where
+pub record RowTables (es : List Entry) (chains numbers : List ℕ) : Type 0 where
   pub chained : Chained es newPoint newArc chains
   pub long : length es ≤ length numbers
   pub numbered : EachBelow (length es) (λ i. getD numbers i 0 ≡ numberNo es i)

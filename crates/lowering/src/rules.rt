@@ -9,7 +9,7 @@ ghost use Rattle.index.specs.Labels.{drawn};
 ghost use Rattle.layout.specs.Push.{over};
 ghost use Rattle.row.specs.Row.{mostIds};
 ghost use Rattle.lowering.specs.Lower.{onto};
-ghost use Rattle.lowering.specs.Steps.{pointSix, circleSix, arcSix, sixOf, Tables, namingBy, spanOf, spanIds, Addable, Added, Sayable, Begins, rowIds, rowAt, Writing, Wrote, Writable, rowsBelow};
+ghost use Rattle.lowering.specs.Steps.{pointSix, circleSix, arcSix, sixOf, RowTables, namingBy, spanOf, spanIds, Addable, Added, Sayable, Begins, rowIds, rowAt, Writing, Wrote, Writable, rowsBelow};
 use crate::spans::number;
 use crate::spans::span_of;
 use index::CHAINS;
@@ -120,7 +120,7 @@ fn add_label(
     out: &mut [u32],
     m: usize,
 ) -> usize
-    requires { ⌜ Tables (drawn (now text) (now records)) (now chains) (now numbers) × Addable (drawn (now text) (now records)) l (now ids) (namingBy code) third (now label) (now out) m ⌝ }
+    requires { ⌜ RowTables (drawn (now text) (now records)) (now chains) (now numbers) × Addable (drawn (now text) (now records)) l (now ids) (namingBy code) third (now label) (now out) m ⌝ }
     ensures { λ r. ⌜ Added (spanIds (drawn (now (text .entry)) (now (records .entry))) l (now (ids .entry)) (spanOf (drawn (now (text .entry)) (now (records .entry))) (namingBy code) third (now (label .entry)))) (now (out .entry)) m r (now (out .exit)) ⌝ }
 {
     let span = span_of(text, records, chains, code, third, label);
@@ -143,7 +143,7 @@ fn row_ids(
     i: usize,
     out: &mut [u32],
 ) -> usize
-    requires { ⌜ (now kinds ≡ table) × Tables (drawn (now text) (now records)) (now chains) (now numbers) × Sayable (drawn (now text) (now records)) l (now ids) i × (length (now out) ≡ mostIds) ⌝ }
+    requires { ⌜ (now kinds ≡ table) × RowTables (drawn (now text) (now records)) (now chains) (now numbers) × Sayable (drawn (now text) (now records)) l (now ids) i × (length (now out) ≡ mostIds) ⌝ }
     ensures { λ r. ⌜ Begins (rowIds (drawn (now (text .entry)) (now (records .entry))) l (now (ids .entry)) (entryAt (drawn (now (text .entry)) (now (records .entry))) i)) (now (out .entry)) r (now (out .exit)) ⌝ }
 {
     let r = decode_record(records, i);
@@ -184,7 +184,7 @@ fn row_at(
     ids: &[u32],
     i: usize,
 ) -> [u8; 44]
-    requires { ⌜ (now kinds ≡ table) × Tables (drawn (now text) (now records)) (now chains) (now numbers) × Sayable (drawn (now text) (now records)) l (now ids) i ⌝ }
+    requires { ⌜ (now kinds ≡ table) × RowTables (drawn (now text) (now records)) (now chains) (now numbers) × Sayable (drawn (now text) (now records)) l (now ids) i ⌝ }
     ensures { λ r. ⌜ r ≡ rowAt (drawn (now (text .entry)) (now (records .entry))) l (now (ids .entry)) i ⌝ }
 {
     let mut out = [0u32; 8];
@@ -212,7 +212,7 @@ fn write_row(
     rows: &mut [u8],
     at: usize,
 ) -> usize
-    requires { ⌜ (now kinds ≡ table) × Tables (drawn (now text) (now records)) (now chains) (now numbers) × Writing (drawn (now text) (now records)) l (now ids) i (now rows) at ⌝ }
+    requires { ⌜ (now kinds ≡ table) × RowTables (drawn (now text) (now records)) (now chains) (now numbers) × Writing (drawn (now text) (now records)) l (now ids) i (now rows) at ⌝ }
     ensures { λ r. ⌜ Wrote (drawn (now (text .entry)) (now (records .entry))) l (now (ids .entry)) i (now (rows .entry)) at r (now (rows .exit)) ⌝ }
 {
     let kind = kind_at(records, i);
@@ -235,7 +235,7 @@ fn write_rows(
     ids: &[u32],
     rows: &mut [u8],
 )
-    requires { ⌜ (now kinds ≡ table) × Tables (drawn (now text) (now records)) (now chains) (now numbers) × Writable (drawn (now text) (now records)) l (now ids) (now rows) ⌝ }
+    requires { ⌜ (now kinds ≡ table) × RowTables (drawn (now text) (now records)) (now chains) (now numbers) × Writable (drawn (now text) (now records)) l (now ids) (now rows) ⌝ }
     ensures { λ _. ⌜ now (rows .exit) ≡ onto (now (rows .entry)) (rowsBelow (drawn (now (text .entry)) (now (records .entry))) l (now (ids .entry)) (length (drawn (now (text .entry)) (now (records .entry))))) ⌝ }
 {
     let n = records.len() / SIZE;

@@ -17,7 +17,7 @@ mul-wide c =
     let a = s .args in
     let es = drawn (a .text .now) (a .records .now) in
     let span = c .span-of in
-    let h = shape-in es _ _ _ _ _ _ _ _ _ _ (s .pre .0) (s .pre .1) (span .result) (span .ensures) in
+    let h = shape-in es _ _ _ _ _ _ _ _ _ (s .pre .0) (s .pre .1) (span .result) (span .ensures) in
     search needs
 
 shared-slice-read-wide : tie.Need-shared-slice-read-wide
@@ -26,7 +26,7 @@ shared-slice-read-wide c =
     let a = s .args in
     let es = drawn (a .text .now) (a .records .now) in
     let span = c .before .span-of in
-    shape-in es _ _ _ _ _ _ _ _ _ _ (s .pre .0) (s .pre .1) (span .result) (span .ensures)
+    shape-in es _ _ _ _ _ _ _ _ _ (s .pre .0) (s .pre .1) (span .result) (span .ensures)
 
 append-requires : tie.Need-append-requires
 append-requires c κs =
@@ -45,7 +45,7 @@ add-result c =
     let es = drawn (a .text .now) (a .records .now) in
     let span = c .before .before .before .before .before .before .before .before .before .span-of in
     let count = span-count es (a .l) (a .ids .now) (namingBy (a .code)) (a .third) (a .label .now) _ (span .ensures) in
-    omega (arith, s .pre .1 .room, count, s .good .1 .1 .1 .1 .1 .1 .1 .1 .1 .1 .0 .1)
+    omega (arith, s .pre .1 .room, count, s .good .1 .1 .1 .1 .1 .1 .1 .1 .1 .0 .1)
 
 returns : tie.Need-returns
 returns c =

@@ -2,7 +2,8 @@
 use native.Mathlib.Omega.{arith}
 use mathlib.Core.Path.{refl}
 use Rattle.index.proofs.Drawn.{drawn-length}
-use Rattle.lowering.proofs.Joining.{chained, tables-are}
+use Rattle.index.proofs.Found.{chained}
+use Rattle.lowering.proofs.Joining.{tables-are}
 use borrow.Author.Needs.{needs}
 use Rattle.lowering.proofs.rules.fill_rows.Statement.{statement}
 use Rattle.lowering.proofs.rules.fill_rows.Tie as tie
@@ -15,11 +16,10 @@ number-requires c κs =
 
 write-rows-requires : tie.Need-write-rows-requires
 write-rows-requires c κs =
-    let s = c .before .before .before .before .before .before .before .before .before .before .before .before .before .before .before .before .before in
-    let number = c .before .before .before .before .before .before .before .before .before .before .before .number in
-    (refl, tables-are (s .args .text .now) (s .args .records .now) _ _ _ (chained (s .pre .0) (c .before .before .before .before .before .before .before .chain .ensures) refl refl) (omega (arith, s .pre .0, number .kept .1 .0)) (number .ensures), s .pre .1)
+    let s = c .before .before .before .before .before .before .before .before .before .before .before .before .before .before in
+    let number = c .before .before .before .before .before .before .before .before .number in
+    (refl, tables-are (s .args .text .now) (s .args .records .now) _ _ (chained (s .pre .0) (c .before .before .before .before .before .chain .ensures) refl) (omega (arith, s .pre .0, number .kept .1 .0)) (number .ensures), s .pre .1)
 
 pub fill-rows-spec : {M : Type 1} → statement M
 fill-rows-spec =
-    tie.close (tie.spec (λ c. search needs) number-requires (λ c. search needs) (λ c. search needs) (λ c κs. search needs) (λ c. search needs)
-    (λ c. search needs) (λ c. search needs) write-rows-requires (λ c. search needs) (λ c. search needs))
+    tie.close (tie.spec (λ c. search needs) number-requires (λ c. search needs) (λ c κs. search needs) (λ c. search needs) (λ c. search needs) write-rows-requires (λ c. search needs) (λ c. search needs))

@@ -41,7 +41,7 @@ loop-again c =
     let name = c .before .before .before .before .before .label-at .ensures .is ∙ sym (drawn-label (a .text .now) (a .records .now) (a .i) _) in
     let inside : i .q < length (entryAt (drawn (a .text .now) (a .records .now)) (a .i) .labels) = omega (arith, i .inv .0) in
     let add = c .before .before .add-label in
-    (i .inv .0, filling-turn _ _ _ _ (i .inv .1) inside _ _ (add .kept .1 .1 .1 .1 .1 .1 .1 .1 .1 .1 .0) (added-of (a .text .now) (a .records .now) (a .i) _ (c .before .before .before .before .before .before .before .before .before .decode-record .ensures) (a .kinds .now) (s .pre .0) (a .l) (a .ids .now) (s .pre .2) _ (i .q) (c .before .before .before .before .look2 .ensures) inside _ name (add .ensures)))
+    (i .inv .0, filling-turn _ _ _ _ (i .inv .1) inside _ _ (add .kept .1 .1 .1 .1 .1 .1 .1 .1 .1 .0) (added-of (a .text .now) (a .records .now) (a .i) _ (c .before .before .before .before .before .before .before .before .before .decode-record .ensures) (a .kinds .now) (s .pre .0) (a .l) (a .ids .now) (s .pre .2) _ (i .q) (c .before .before .before .before .look2 .ensures) inside _ name (add .ensures)))
 
 returns : tie.Need-returns Inv-loop μ-loop
 returns c = filling-end _ _ _ _ (c .before .loop .inv .1) (omega (arith, c .before .loop .inv .0))

@@ -30,7 +30,7 @@ loop-again c =
     let a = s .args in
     let es = drawn (a .text .now) (a .records .now) in
     let w = c .before .before .write-row in
-    writes-turn es (a .l) (a .ids .now) (a .rows .now) (s .pre .2) (c .before .before .before .before .before .loop .inv) (rw (drawn-length (a .text .now) (a .records .now)) (omega arith)) _ _ (w .kept .1 .1 .1 .1 .1 .1 .1 .1 .1 .0) (w .ensures)
+    writes-turn es (a .l) (a .ids .now) (a .rows .now) (s .pre .2) (c .before .before .before .before .before .loop .inv) (rw (drawn-length (a .text .now) (a .records .now)) (omega arith)) _ _ (w .kept .1 .1 .1 .1 .1 .1 .1 .1 .0) (w .ensures)
 
 returns : tie.Need-returns Inv-loop μ-loop
 returns c =

@@ -8,7 +8,7 @@ use Rattle.lowering.proofs.shapes.circle_of.Tie as tie
 
 returns : tie.Need-returns
 returns c =
-    let a = c .before .before .before .before .before .before .before .before .before .before .args in
+    let a = c .before .before .before .before .before .before .before .before .before .args in
     rw (c .before .pair-of .ensures, number-is (a .text .now) (a .records .now) (a .label .now) (bytes ".radius") _ (c .before .before .before .guess-of .ensures) _ (c .from-bits .ensures)) refl
 
 pub circle-of-spec : {M : Type 1} → statement M

@@ -6,7 +6,7 @@ use Rattle.lowering.proofs.shapes.pair_of.Tie as tie
 
 returns : tie.Need-returns
 returns c =
-    let a = c .before .before .before .before .before .before .before .before .before .args in
+    let a = c .before .before .before .before .before .before .before .before .args in
     pair-is (a .text .now) (a .records .now) (a .label .now) (a .suffix .now) _ (c .before .before .guess-of .ensures) _ _ (c .before .from-bits .ensures) (c .from-bits2 .ensures)
 
 pub pair-of-spec : {M : Type 1} → statement M

@@ -21,13 +21,13 @@ loop-holds c = pushes-start
 
 loop-again : tie.Need-loop-again Inv-loop μ-loop
 loop-again c =
-    let a = c .before .before .before .before .before .before .before .before .before .before .before .before .before .before .before .args in
+    let a = c .before .before .before .before .before .before .before .before .before .before .before .before .before .before .args in
     let p = c .before .before .before .before .push-at in
-    pushes-turn (c .before .before .before .before .before .before .before .before .loop .inv) _ (rw (drawn-length (a .text .now) (a .records .now)) (omega arith)) (p .ensures) (p .kept .1 .1 .1 .1 .1 .1 .1 .0) (p .kept .1 .1 .1 .1 .1 .1 .1 .1 .0)
+    pushes-turn (c .before .before .before .before .before .before .before .before .loop .inv) _ (rw (drawn-length (a .text .now) (a .records .now)) (omega arith)) (p .ensures) (p .kept .1 .1 .1 .1 .1 .1 .0) (p .kept .1 .1 .1 .1 .1 .1 .1 .0)
 
 returns : tie.Need-returns Inv-loop μ-loop
 returns c =
-    let a = c .before .before .before .before .before .before .before .before .args in
+    let a = c .before .before .before .before .before .before .before .args in
     pushes-end (c .before .loop .inv) (rw (drawn-length (a .text .now) (a .records .now)) (omega arith))
 
 pub push-all-spec : {M : Type 1} → statement M

@@ -10,13 +10,13 @@ use Rattle.lowering.proofs.shapes.push_at.Tie as tie
 
 returns : tie.Need-returns
 returns c =
-    let a = c .before .before .before .before .before .before .before .before .args in
+    let a = c .before .before .before .before .before .before .before .args in
     let es = drawn (a .text .now) (a .records .now) in
     pushed-none es (a .kind) (a .i) _ _ (c .before .kind-at .ensures ∙ sym (drawn-kind (a .text .now) (a .records .now) (a .i))) (c .if1 .taken)
 
 returns-2 : tie.Need-returns-2
 returns-2 c =
-    let a = c .before .before .before .before .before .before .before .before .before .before .before .before .before .before .before .before .before .before .before .args in
+    let a = c .before .before .before .before .before .before .before .before .before .before .before .before .before .before .before .before .before .before .args in
     let es = drawn (a .text .now) (a .records .now) in
     let k = c .before .before .before .before .before .before .before .before .before .before .before .before .kind-at in
     pushed-one es (a .kind) (a .i) _ _ (k .ensures ∙ sym (drawn-kind (a .text .now) (a .records .now) (a .i))) (c .before .before .before .before .before .before .before .before .before .before .before .if1 .left) _ _

@@ -12,21 +12,21 @@ use Rattle.lowering.proofs.shapes.push_shape.Tie as tie
 
 returns : tie.Need-returns
 returns c =
-    let a = c .before .before .before .before .before .before .before .before .before .before .before .before .before .before .before .before .before .args in
+    let a = c .before .before .before .before .before .before .before .before .before .before .before .before .before .before .before .before .args in
     let l = a .label .now in
     let es = drawn (a .text .now) (a .records .now) in
     push-as _ (shapeFor es (shapeOf (a .kind)) l) (ap layout.point (c .before .before .before .before .before .pair-of .ensures) ∙ sym (ap (λ (s : Shape). shapeFor es s l) (is-first (a .kind) 1 2 point circle arc (omega arith)))) (c .before .before .before .before .push-point .ensures)
 
 returns-2 : tie.Need-returns-2
 returns-2 c =
-    let a = c .before .before .before .before .before .before .before .before .before .before .before .before .before .before .before .before .args in
+    let a = c .before .before .before .before .before .before .before .before .before .before .before .before .before .before .before .args in
     let l = a .label .now in
     let es = drawn (a .text .now) (a .records .now) in
     push-as _ (shapeFor es (shapeOf (a .kind)) l) (ap layout.circle (c .before .before .before .before .before .circle-of .ensures) ∙ sym (ap (λ (s : Shape). shapeFor es s l) (is-second (a .kind) 1 2 point circle arc (λ e. omega arith) (omega arith)))) (c .before .before .before .before .push-circle .ensures)
 
 returns-3 : tie.Need-returns-3
 returns-3 c =
-    let a = c .before .before .before .before .before .before .before .before .before .before .before .before .before .before .before .before .args in
+    let a = c .before .before .before .before .before .before .before .before .before .before .before .before .before .before .before .args in
     let l = a .label .now in
     let es = drawn (a .text .now) (a .records .now) in
     push-as _ (shapeFor es (shapeOf (a .kind)) l) (ap layout.arc (c .before .before .before .before .before .arc-of .ensures) ∙ sym (ap (λ (s : Shape). shapeFor es s l) (is-other (a .kind) 1 2 point circle arc (c .before .before .before .before .before .before .before .before .match .rest .0 .1) (c .before .before .before .before .before .before .before .before .match .rest .1)))) (c .before .before .before .before .push-arc .ensures)

@@ -10,7 +10,7 @@ use Rattle.lowering.proofs.shapes.push_stage.Tie as tie
 
 returns : tie.Need-returns
 returns c =
-    let a = c .before .before .before .before .before .before .before .before .before .before .before .before .before .before .args in
+    let a = c .before .before .before .before .before .before .before .before .before .before .before .before .before .args in
     let p = c .before .before .before .before .before .push-all in
     staged (drawn (a .text .now) (a .records .now)) (a .kind) _ (state (p .result .layout) (p .result .next) _ _) _ _ (p .ensures) (ap (λ (l : Laid). l .layout) (c .step .ensures)) (ap (λ (l : Laid). l .next) (c .step .ensures))
 

@@ -11,19 +11,19 @@ use Rattle.lowering.proofs.spans.span_of.Tie as tie
 returns : tie.Need-returns
 unfolding spanOf
 returns c =
-    let a = c .before .before .before .before .before .before .before .args in
+    let a = c .before .before .before .before .before .before .args in
     rw (is-first (a .code) assigned a-round part center whole (omega arith)) (c .part-span .ensures)
 
 returns-2 : tie.Need-returns-2
 unfolding spanOf
 returns-2 c =
-    let a = c .before .before .before .before .before .before .before .args in
+    let a = c .before .before .before .before .before .before .args in
     rw (is-second (a .code) assigned a-round part center whole (λ e. omega arith) (omega arith)) (c .center-span .ensures)
 
 returns-3 : tie.Need-returns-3
 unfolding spanOf
 returns-3 c =
-    let a = c .before .before .before .before .before .before .before .args in
+    let a = c .before .before .before .before .before .before .args in
     rw (is-other (a .code) assigned a-round part center whole (c .before .match .rest .0 .1) (c .before .match .rest .1)) (c .whole-span .ensures)
 
 pub span-of-spec : {M : Type 1} → statement M
