@@ -9,6 +9,8 @@ use lib.Dec.{ltb}
 use borrow.Author.Tests.{ltb-false}
 use lib.ListN.{length}
 use lib.Ieee.{Float}
+use Rattle.refusal.specs.declared.Refusal.{Refusal}
+use Rattle.refusal.specs.Refusal.{refusal}
 use Rattle.refusal.specs.First.{Answer, passed, refused}
 use Rattle.layout.specs.declared.Layout.{Layout}
 use Rattle.layout.specs.Refusals.{idsEnd}
@@ -41,8 +43,8 @@ use Rattle.lowering.proofs.Lacking.{lack-is, lower-good, lower-refused,
 
 module _ (es : List Entry) (next : ℕ) (ids : List ℕ) (values : List Float) (rows : List ℕ) where
   -- on a refusal, what it was
-  kept-all : (n i : ℕ) → lowerOf es (roomIn next ids values rows) ≡ L.Refused n i → Lowers es next ids values rows (L.Refused n i) ids values rows
-  kept-all n i e = record { answer = sym e; ids-are = rw e refl; values-are = rw e refl; rows-are = rw e refl }
+  kept-all : (r : Refusal) → lowerOf es (roomIn next ids values rows) ≡ L.Refused r → Lowers es next ids values rows (L.Refused r) ids values rows
+  kept-all r e = record { answer = sym e; ids-are = rw e refl; values-are = rw e refl; rows-are = rw e refl }
 
   -- and else the slots and the rows
   filled-all : (l : Layout) (n m : ℕ) → lowerOf es (roomIn next ids values rows) ≡ L.Good l n m
@@ -51,16 +53,15 @@ module _ (es : List Entry) (next : ℕ) (ids : List ℕ) (values : List Float) (
 
   -- ---- the check refuses
 
-  pub refused-ends : (n i : ℕ) → checkedOf es ≡ checked.Refused n i → Lowers es next ids values rows (L.Refused n i) ids values rows
+  pub refused-ends : (r : Refusal) → checkedOf es ≡ checked.Refused r → Lowers es next ids values rows (L.Refused r) ids values rows
   unfolding checkedOf
-  refused-ends n i = go (checkOf es) refl
+  refused-ends r = go (checkOf es) refl
     where
-      go : (a : Answer Fault) → checkOf es ≡ a → answer es a ≡ checked.Refused n i → Lowers es next ids values rows (L.Refused n i) ids values rows
+      go : (a : Answer Fault) → checkOf es ≡ a → answer es a ≡ checked.Refused r → Lowers es next ids values rows (L.Refused r) ids values rows
       go passed e q = let z : _≡_ {A = ℕ} 0 1 = cc in absurd (omega arith)
       go (refused f j) e q =
-          let number : numberOf f ≡ n = cc in
-          let place : j ≡ i = cc in
-          rw (← number, ← place) (kept-all (numberOf f) j (lower-refused es (roomIn next ids values rows) f j e))
+          let same : refusal (numberOf f) j ≡ r = cc in
+          rw (← same) (kept-all (refusal (numberOf f) j) (lower-refused es (roomIn next ids values rows) f j e))
 
 -- ---- what is lacking
 
@@ -83,14 +84,14 @@ enough-for room n m =
     }
 
 -- any other number is that of the lack
-lack-ends : (es : List Entry) (room : Room) (k : ℕ) → checkOf es ≡ passed → lackTold room (length (slots es)) (length (rulesOf es)) ≡ k → (k ≡ 0 → ⊥) → lowerOf es room ≡ L.Refused k 0
+lack-ends : (es : List Entry) (room : Room) (k : ℕ) → checkOf es ≡ passed → lackTold room (length (slots es)) (length (rulesOf es)) ≡ k → (k ≡ 0 → ⊥) → lowerOf es room ≡ L.Refused (refusal k 0)
 lack-ends es room k c told some = go (lacking es room few-ids) (lacking es room short-slices) (lacking es room short-rows) (lack-is es room) told
   where
-    ends : (f : Lack) → lackOf es room ≡ refused f 0 → lackNumber f ≡ k → lowerOf es room ≡ L.Refused k 0
+    ends : (f : Lack) → lackOf es room ≡ refused f 0 → lackNumber f ≡ k → lowerOf es room ≡ L.Refused (refusal k 0)
     ends f e q = lower-lacking es room f 0 c e ∙ rw q refl
 
     go : (x y z : Bool) → lackOf es room ≡ cond x (refused few-ids 0) (cond y (refused short-slices 0) (cond z (refused short-rows 0) passed))
-        → cond x 36 (cond y 37 (cond z 38 0)) ≡ k → lowerOf es room ≡ L.Refused k 0
+        → cond x 36 (cond y 37 (cond z 38 0)) ≡ k → lowerOf es room ≡ L.Refused (refusal k 0)
     go true y z e q = ends few-ids e q
     go false true z e q = ends short-slices e q
     go false false true e q = ends short-rows e q
@@ -114,10 +115,10 @@ counted es P C A R e =
     }
 
 pub lacking-ends : (es : List Entry) (next : ℕ) (ids : List ℕ) (values : List Float) (rows : List ℕ) (P C A R k : ℕ) → checkedOf es ≡ checked.Passed P C A R
-    → lackTold (roomIn next ids values rows) (P * 2 + C * 3 + A * 6) R ≡ k → (k ≡ 0 → ⊥) → Lowers es next ids values rows (L.Refused k 0) ids values rows
+    → lackTold (roomIn next ids values rows) (P * 2 + C * 3 + A * 6) R ≡ k → (k ≡ 0 → ⊥) → Lowers es next ids values rows (L.Refused (refusal k 0)) ids values rows
 lacking-ends es next ids values rows P C A R k e told some =
     let c = counted es P C A R e in
-    kept-all es next ids values rows k 0 (lack-ends es (roomIn next ids values rows) k (c .passes) (rw (c .slot-number, c .rule-number) told) some)
+    kept-all es next ids values rows (refusal k 0) (lack-ends es (roomIn next ids values rows) k (c .passes) (rw (c .slot-number, c .rule-number) told) some)
 
 -- the counts are small
 pub record Few (P C A R : ℕ) : Type 0 where

@@ -6,6 +6,7 @@ use mathlib.Core.List.{List}
 use Prim.Native.Nat.{ℕ, _+_}
 use native.Mathlib.Omega.{arith}
 use lib.ListN.{length}
+use Rattle.refusal.specs.Refusal.{refusal}
 use Rattle.refusal.specs.First.{passed, refused, lowest, first}
 use Rattle.refusal.proofs.Says.{Says, says-lt, says-or}
 use Rattle.refusal.proofs.Right.{passed-iff}
@@ -54,11 +55,11 @@ module _ (es : List Entry) (room : Room) where
     lower-good c = rw (c, none-lacking) refl
 
   -- a drawing that the check refuses is refused alike
-  pub lower-refused : (f : Fault) (i : ℕ) → checkOf es ≡ refused f i → lowerOf es room ≡ L.Refused (numberOf f) i
+  pub lower-refused : (f : Fault) (i : ℕ) → checkOf es ≡ refused f i → lowerOf es room ≡ L.Refused (refusal (numberOf f) i)
   unfolding lowerOf
   lower-refused f i c = rw c refl
 
   -- and one that passes, for what is lacking
-  pub lower-lacking : (f : Lack) (i : ℕ) → checkOf es ≡ passed → lackOf es room ≡ refused f i → lowerOf es room ≡ L.Refused (lackNumber f) i
+  pub lower-lacking : (f : Lack) (i : ℕ) → checkOf es ≡ passed → lackOf es room ≡ refused f i → lowerOf es room ≡ L.Refused (refusal (lackNumber f) i)
   unfolding lowerOf
   lower-lacking f i c l = rw (c, l) refl

@@ -1,6 +1,6 @@
 -- Lowering is refused with a number at a place exactly if that is the first of 30 to 38 that holds, at its lowest place: the check and what is lacking,
 -- one behind the other, are one search through the one order. Assumes nothing.
-use mathlib.Core.Path.{_≡_, refl, _∙_, sym}
+use mathlib.Core.Path.{_≡_, refl, ap, _∙_, sym}
 use mathlib.Core.Logic.{_↔_}
 use mathlib.Core.Bool.{Bool, true, false, _&&_}
 use mathlib.Core.Option.{Option, none, some}
@@ -10,6 +10,8 @@ use native.Mathlib.Omega.{arith}
 use lib.Dec.{eqb}
 use lib.ListN.{length}
 use borrow.Author.Tests.{ne-eqb}
+use Rattle.refusal.specs.declared.Refusal.{Refusal}
+use Rattle.refusal.specs.Refusal.{refusal}
 use Rattle.refusal.specs.First.{Answer, passed, refused, lowest, tell, first, Told, NoneHolds}
 use Rattle.refusal.proofs.Says.{Says, says-and, says-eq}
 use Rattle.refusal.proofs.Right.{refused-iff, passed-iff}
@@ -95,12 +97,14 @@ module _ (es : List Entry) (room : Room) where
   -- ---- in words
 
   -- the cause behind a number
-  because : (a : Answer Cause) (number place : ℕ) → behind causeNumber a good ≡ L.Refused number place → (c : Cause) × (causeNumber c ≡ number) × (a ≡ refused c place)
-  because (refused c i) number place e = let n : causeNumber c ≡ number = cc in let p : i ≡ place = cc in (c, n, cc)
+  because : (a : Answer Cause) (number place : ℕ) → behind causeNumber a good ≡ L.Refused (refusal number place) → (c : Cause) × (causeNumber c ≡ number) × (a ≡ refused c place)
+  because (refused c i) number place e =
+      let same : refusal (causeNumber c) i ≡ refusal number place = cc in
+      (c, ap (λ (r : Refusal). r .number) same, ap (λ (r : Refusal). refused c (r .place)) same)
   because passed number place e = let z : _≡_ {A = ℕ} 0 1 = cc in absurd (omega arith)
 
   -- a number is told at a place exactly if it is that of the first cause of the order that holds anywhere, and the place is the lowest where it holds
-  pub lower-refused-iff : (number place : ℕ) → (lowerOf es room ≡ L.Refused number place) ↔ ((c : Cause) × (causeNumber c ≡ number) × Told (Causes es room) (places es) causes c place)
+  pub lower-refused-iff : (number place : ℕ) → (lowerOf es room ≡ L.Refused (refusal number place)) ↔ ((c : Cause) × (causeNumber c ≡ number) × Told (Causes es room) (places es) causes c place)
   lower-refused-iff number place = (
     λ e. let (c, n, w) = because told number place (sym lower-is ∙ e) in (c, n, refused-iff tests (Causes es room) says (places es) causes c place .0 w),
     λ w. lower-is ∙ rw (refused-iff tests (Causes es room) says (places es) causes (w .0) place .1 (w .2), w .1) refl,

@@ -7,6 +7,7 @@ use Prim.Native.Nat.{ℕ, _+_, _*_, _<_}
 use lib.Dec.{ltb}
 use lib.ListN.{length, drop}
 use lib.Ieee.{Float}
+use Rattle.refusal.specs.Refusal.{refusal}
 use Rattle.refusal.specs.First.{Answer, passed, refused, first}
 use Rattle.layout.specs.Refusals.{idsEnd}
 use Rattle.layout.specs.Push.{onward}
@@ -65,7 +66,7 @@ lackOf es room = first lackOrder (λ f i. lacking es room f) 1
 
 -- a refusal with its number and place, or what comes behind it
 abbrev pub behind : {F : Type 0} → (F → ℕ) → Answer F → Lowered → Lowered
-behind number (refused f i) rest = L.Refused (number f) i
+behind number (refused f i) rest = L.Refused (refusal (number f) i)
 behind number passed rest = rest
 
 -- the layout, the next id, and how many rows there are
@@ -76,7 +77,7 @@ lowerOf es room = behind numberOf (checkOf es) (behind lackNumber (lackOf es roo
 
 -- on a refusal what it was, and else something new
 abbrev pub unless : {A : Type 0} → Lowered → A → A → A
-unless (L.Refused n i) was new = was
+unless (L.Refused r) was new = was
 unless (L.Good l next rows) was new = new
 
 -- a list with new elements in the place of its first ones

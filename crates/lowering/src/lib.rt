@@ -13,6 +13,7 @@ ghost use Rattle.lowering.specs.Steps.{Passing, Filled, lackTold};
 use drawing::Checked;
 use drawing::check;
 use layout::Layout;
+use refusal::Refusal;
 use row::ROW;
 use rules::fill_rows;
 use shapes::fill_slots;
@@ -27,10 +28,7 @@ pub enum Lowered {
         next: u32,
         rows: usize,
     },
-    Refused {
-        number: u8,
-        place: usize,
-    },
+    Refused(Refusal),
 }
 
 // How many slots so many shapes have.
@@ -87,7 +85,7 @@ pub fn lower(
 {
     let checked = check(text, records);
     match checked {
-        Checked::Refused { number, place } => Lowered::Refused { number, place },
+        Checked::Refused(r) => Lowered::Refused(r),
         Checked::Passed {
             points,
             circles,
@@ -97,10 +95,10 @@ pub fn lower(
             let slots = slots_of(points, circles, arcs);
             let told = lack(next, ids.len(), values.len(), rows.len(), slots, count);
             if told != 0 {
-                return Lowered::Refused {
+                return Lowered::Refused(Refusal {
                     number: told,
                     place: 0,
-                };
+                });
             }
             let layout = fill(text, records, next, ids, values, rows);
             Lowered::Good {

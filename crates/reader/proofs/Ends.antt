@@ -12,23 +12,25 @@ use Rattle.text.specs.declared.Stand.{Stand}
 use Rattle.text.specs.declared.Stand.the-variants.{At, Nothing, Refused}
 use Rattle.store.specs.Store.{room, written}
 use Rattle.store.proofs.Laws.{written-first}
-use Rattle.record.specs.Record.{recordBytes, encodeAll}
+use Rattle.record.specs.Record.{recordBytes, mostRecords, longestText, encodeAll}
 use Rattle.record.proofs.Back.{count-all}
 use Rattle.reader.specs.declared.Reading.{Reading}
 use Rattle.reader.specs.declared.Reading.the-variants as reading
-use Rattle.reader.specs.Page.{longestText, mostRecords, highAt, refused, toldOf, endedOf, problemOf, readingOf, recordsIn, writtenBy, bufferAfter, Reads, stored, Paged, Ended}
-use Rattle.reader.proofs.Storing.{stored-all}
-use Rattle.reader.proofs.Turns.{lines-few}
+use Rattle.forms.specs.Section.{stored}
+use Rattle.forms.proofs.Storing.{stored-all}
+use Rattle.forms.proofs.SoundSection.{lines-due}
+use Rattle.reader.specs.Page.{highAt, refused, toldOf, endedOf, problemOf, readingOf, recordsIn, writtenBy, bufferAfter, Reads}
+use Rattle.reader.specs.Steps.{Paged, Ended}
 
 -- ---- how many records a page can have
 
 pub instructions-few : (s : List ℕ) → length (problemOf s .instructions) ≤ 2 * suc (length s)
 unfolding problemOf
-instructions-few s = lines-few false s _ 4
+instructions-few s = lines-due s false _ 4 .few
 
 pub guesses-few : (s : List ℕ) → length (problemOf s .guesses) ≤ 2 * suc (length s)
 unfolding problemOf
-guesses-few s = lines-few true s _ 7
+guesses-few s = lines-due s true _ 7 .few
 
 -- ---- a good answer says that there is room
 

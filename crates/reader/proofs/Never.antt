@@ -6,13 +6,13 @@ use Prim.Native.Nat.{ℕ, zero, suc}
 use lib.ListN.{length}
 use Rattle.ground.specs.Words.{bytes}
 use Rattle.refusal.specs.declared.Refusal.{Refusal}
-use Rattle.text.specs.Text.{from, wsOn, wordOn, byteOn, labelOn, suffixedOn, newlineOn}
+use Rattle.text.specs.Text.{from, orStand, due, wsOn, wordOn, byteOn, labelOn, suffixedOn, newlineOn}
 use Rattle.text.specs.declared.Stand.{Stand}
 use Rattle.text.specs.declared.Stand.the-variants.{At, Nothing, Refused}
 use Rattle.number.specs.Number.{numberOn}
-use Rattle.reader.specs.declared.forms.Line.{Line}
-use Rattle.reader.specs.Forms.{orStand, pairOn, declareOn, instructionOn, guessedOn, guessOn}
-use Rattle.reader.specs.Page.{Lines, none, after, recordsOf, lineOn, stopped, follow, restOf, due, linesOn, headingOn, optNewlineOn, problemOf}
+use Rattle.forms.specs.Forms.{Lines, noLine, pairOn, declareOn, instructionOn, guessedOn, guessOn, lineOn}
+use Rattle.forms.specs.Section.{followedBy, stopped, follow, restOf, linesOn}
+use Rattle.reader.specs.Page.{headingOn, optNewlineOn, problemOf}
 
 -- a place or a refusal
 abbrev Some : Stand → Type 0
@@ -32,10 +32,10 @@ stopped-some at Nothing = tt
 stopped-some at (Refused why) = tt
 
 module _ (s : List ℕ) where
-  follow-some : (l : Line) (at : ℕ) (rest : ℕ → Lines) → ((next : ℕ) → Some (rest next .then)) → Some (follow l at rest .then)
+  follow-some : (l : Lines) (at : ℕ) (rest : ℕ → Lines) → ((next : ℕ) → Some (rest next .then)) → Some (follow l at rest .then)
   follow-some l at rest h = go (l .then) (stopped-some at (l .then))
     where
-      go : (t : Stand) → Some (stopped at (l .then)) → Some (from t (none (stopped at (l .then))) (λ next. after (recordsOf l) (rest next)) .then)
+      go : (t : Stand) → Some (stopped at (l .then)) → Some (from t (noLine (stopped at (l .then))) (λ next. followedBy (l .records) (rest next)) .then)
       go (At next) k = h next
       go Nothing k = k
       go (Refused why) k = k
@@ -51,7 +51,7 @@ module _ (s : List ℕ) where
   line-refused false why = refl
   line-refused true why = refl
 
-  begun-some : (g : Bool) (l : Line) (t : Stand) → Some t → Some (from t (none t) (λ next. after (recordsOf l) (restOf (length s) g s next)) .then)
+  begun-some : (g : Bool) (l : Lines) (t : Stand) → Some t → Some (from t (noLine t) (λ next. followedBy (l .records) (restOf (length s) g s next)) .then)
   begun-some g l (At next) h = rest-some (length s) g next
   begun-some g l Nothing h = h
   begun-some g l (Refused why) h = h

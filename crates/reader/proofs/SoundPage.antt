@@ -1,82 +1,44 @@
 -- Each record of a page is sound over the text, and a page that is read to its end has an instruction and a guess. Assumes nothing.
-use mathlib.Core.Path.{_≡_, refl}
 use mathlib.Core.Bool.{Bool, true, false}
-use mathlib.Core.List.{List, [], _∷_, _++_}
+use mathlib.Core.List.{List, [], _∷_}
 use Prim.Native.Nat.{ℕ, zero, suc, _+_, _-_, _≤_, _<_}
+use mathlib.Core.Path.{_≡_}
 use native.Mathlib.Nat.{not-suc-le-zero}
 use native.Mathlib.Omega.{arith}
 use native.Mathlib.Decide.{decLt}
 use lib.ListN.{length, getD, length-append, List·getD-append}
 use lib.Seq.{getD-append-add}
 use Rattle.ground.specs.Words.{bytes}
-use Rattle.text.specs.Text.{from, wsOn, newlineOn}
+use Rattle.text.specs.Text.{orStand, due, wsOn, newlineOn}
 use Rattle.text.specs.declared.Stand.{Stand}
-use Rattle.text.specs.declared.Stand.the-variants.{At, Nothing, Refused}
+use Rattle.text.specs.declared.Stand.the-variants.{At}
 use Rattle.record.specs.Decode.{noRecord}
-use Rattle.reader.specs.declared.forms.Line.{Line}
-use Rattle.reader.specs.Page.{recordsOf, Lines, none, after, lineOn, stopped, follow, restOf, due, linesOn, headingOn, problemOf, recordsIn}
-use Rattle.reader.proofs.Reached.{Reached, here, Behind, same, ws-behind, byte-behind, heading-behind, optional-behind, due-behind}
-use Rattle.reader.proofs.SoundLines.{Each, Proper, Lined, line-lined}
+use Rattle.forms.specs.Section.{linesOn}
+use Rattle.forms.proofs.Kept.{either-of}
+use Rattle.forms.proofs.Stands.{Reached, Behind, same, kept-behind, due-behind}
+use Rattle.forms.proofs.SoundLines.{Each, Proper}
+use Rattle.forms.proofs.SoundSection.{lines-due}
+use Rattle.reader.specs.Page.{headingOn, optNewlineOn, problemOf, recordsIn}
 
--- ---- each of a list
+each-at : {A : Type 0} (P : A → Type 0) (l : List A) (d : A) (i : ℕ) → Each P l → i < length l → P (getD l i d)
+each-at P [] d i f h = absurd (not-suc-le-zero h)
+each-at P (x ∷ l) d zero f h = f .0
+each-at P (x ∷ l) d (suc i) f h = each-at P l d i (f .1) (omega arith)
 
-module _ {A : Type 0} (P : A → Type 0) where
-  each-both : (a b : List A) → Each P a → Each P b → Each P (a ++ b)
-  each-both [] b f g = g
-  each-both (x ∷ a) b f g = (f .0, each-both a b (f .1) g)
+-- ---- headings
 
-  each-at : (l : List A) (d : A) (i : ℕ) → Each P l → i < length l → P (getD l i d)
-  each-at [] d i f h = absurd (not-suc-le-zero h)
-  each-at (x ∷ l) d zero f h = f .0
-  each-at (x ∷ l) d (suc i) f h = each-at l d i (f .1) (omega arith)
+module _ (s : List ℕ) {t u : Stand} where
+  -- what is due is read
+  read-behind : (before : Stand) (number : ℕ) → Behind t u → Behind t (due before u number)
+  read-behind before number f = record { back = λ h. f .back (due-behind before u number .back h) }
 
--- ---- the records of lines
+  heading-behind : (w : List ℕ) → Behind t u → Behind t (headingOn s u w)
+  unfolding headingOn
+  heading-behind w f = let on = kept-behind s t in on .byte 10 (on .word w (on .ws (on .byte 35 f)))
 
--- a line has a record
-some-record : (l : Line) → 0 < length (recordsOf l)
-some-record l = go (l .twin)
-  where
-    go : (twin : Bool) → 0 < length (recordsOf (record { first = l .first; twin = twin; then = l .then }))
-    go true = omega arith
-    go false = omega arith
-
-module _ (s : List ℕ) (guess : Bool) where
-  follow-proper : (t : Stand) (l : Line) (at : ℕ) (rest : ℕ → Lines) → Lined s guess t l → ((next : ℕ) → Each (Proper s guess) (rest next .records))
-      → Each (Proper s guess) (follow l at rest .records)
-  follow-proper t l at rest f g = go (l .then) refl
-    where
-      go : (u : Stand) → l .then ≡ u → Each (Proper s guess) (from u (none (stopped at (l .then))) (λ next. after (recordsOf l) (rest next)) .records)
-      go (At next) e = each-both (Proper s guess) (recordsOf l) (rest next .records) (f .proper (rw e (here next))) (g next)
-      go Nothing e = tt
-      go (Refused why) e = tt
-
-  rest-proper : (most at : ℕ) → Each (Proper s guess) (restOf most guess s at .records)
-  unfolding restOf
-  rest-proper zero at = tt
-  rest-proper (suc most) at =
-      let t = newlineOn s (At at) in
-      follow-proper t (lineOn guess s t) at (restOf most guess s) (line-lined s guess t) (rest-proper most)
-
-  -- the first line is due, so where reading stands at a place behind the lines it stood at one before them, and there is a record
-  pub record Due (t : Stand) (l : Lines) : Type 0 where
-    pub proper : Each (Proper s guess) (l .records)
-    pub behind : Behind t (l .then)
-    pub some : Reached (l .then) → 0 < length (l .records)
-
-  lines-due : (t : Stand) (code : ℕ) → Due t (linesOn guess s t code)
-  unfolding linesOn
-  lines-due t code = go (due t (lineOn guess s t .then) code) (due-behind t (lineOn guess s t .then) code (same (lineOn guess s t .then)))
-    where
-      go : (u : Stand) → Behind (lineOn guess s t .then) u → Due t (from u (none u) (λ next. after (recordsOf (lineOn guess s t)) (restOf (length s) guess s next)))
-      go (At next) b =
-          let k = b .back (here next) in
-          record {
-            proper = each-both (Proper s guess) (recordsOf (lineOn guess s t)) (restOf (length s) guess s next .records) (line-lined s guess t .proper k) (rest-proper (length s) next);
-            behind = record { back = λ h. line-lined s guess t .behind .back k };
-            some = λ h. omega (arith, some-record (lineOn guess s t), length-append (recordsOf (lineOn guess s t)) (restOf (length s) guess s next .records));
-          }
-      go Nothing b = record { proper = tt; behind = record { back = λ h. absurd (h .is) }; some = λ h. absurd (h .is) }
-      go (Refused why) b = record { proper = tt; behind = record { back = λ h. absurd (h .is) }; some = λ h. absurd (h .is) }
+  optional-behind : Behind t u → Behind t (optNewlineOn s u)
+  unfolding optNewlineOn
+  optional-behind f = either-of (Behind t) (newlineOn s u) (newlineOn s u) u (kept-behind s t .byte 10 f) f
 
 -- ---- the records of a page
 
@@ -98,10 +60,10 @@ module _ (s : List ℕ) where
       let gap = due (is .then) (newlineOn s (newlineOn s (is .then))) 5 in
       let next = due gap (headingOn s (wsOn s gap) (bytes "guesses")) 6 in
       let gs = linesOn true s next 7 in
-      let k : Reached (gs .then) = ws-behind s (optional-behind s (same (gs .then))) .back h in
+      let k : Reached (gs .then) = kept-behind s (gs .then) .ws (optional-behind s (same (gs .then))) .back h in
+      let on = kept-behind s (is .then) in
       let b : Behind (is .then) next
-      = due-behind gap (headingOn s (wsOn s gap) (bytes "guesses")) 6 (heading-behind s (bytes "guesses") (ws-behind s
-      (due-behind (is .then) (newlineOn s (newlineOn s (is .then))) 5 (byte-behind s 10 (byte-behind s 10 (same (is .then))))))) in
+      = read-behind s gap 6 (heading-behind s (bytes "guesses") (on .ws (read-behind s (is .then) 5 (on .byte 10 (on .byte 10 (same (is .then))))))) in
       let w = lines-due s true next 7 in
       (lines-due s false top 4 .some (b .back (w .behind .back k)), w .some k)
 

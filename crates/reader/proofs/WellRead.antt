@@ -12,7 +12,7 @@ use borrow.Author.Tests.{ltb-false, leb-true, leb-false, lt-ltb}
 use Rattle.refusal.specs.First.{Nowhere}
 use Rattle.text.specs.declared.Stand.{Stand}
 use Rattle.text.specs.declared.Stand.the-variants.{At, Nothing, Refused}
-use Rattle.record.specs.Record.{recordBytes, firstGuess, encodeAll}
+use Rattle.record.specs.Record.{recordBytes, mostRecords, longestText, firstGuess, encodeAll}
 use Rattle.record.specs.Decode.{decode, countOf, recordOf, decodeAt, noRecord}
 use Rattle.record.specs.Entry.{noEntry, entryOf}
 use Rattle.record.specs.Sound.{Good}
@@ -23,11 +23,11 @@ use Rattle.record.proofs.Entries.{whole-length}
 use Rattle.record.proofs.Told.{passed-iff}
 use Rattle.record.proofs.WellFormed.{well-formed-iff}
 use Rattle.record.proofs.Written.{good-written, entry-decoded}
+use Rattle.forms.proofs.Stands.{Reached, here}
 use Rattle.reader.specs.declared.Reading.the-variants as reading
-use Rattle.reader.specs.Page.{longestText, mostRecords, problemOf, highAt, refused, endedOf, readingOf, recordsIn, linesOf, bufferAfter, Reads}
+use Rattle.reader.specs.Page.{problemOf, highAt, refused, endedOf, readingOf, recordsIn, linesOf, bufferAfter, Reads}
 use Rattle.reader.proofs.Ends.{good-says}
 use Rattle.reader.proofs.Written.{written-fits, read-back}
-use Rattle.reader.proofs.Reached.{Reached, here}
 use Rattle.reader.proofs.SoundPage.{some-of-each, instruction-at, guess-at, record-at}
 
 -- ---- the bytes of the records of a page

@@ -1,25 +1,26 @@
 -- Every record that a reading writes fits its bytes, so that it comes back whole from them: its labels lie in a text that is not too
 -- long, and what its kind has no bytes for is 0. Assumes nothing.
 use mathlib.Core.Path.{_≡_, refl, sym, _∙_}
-use mathlib.Core.Bool.{Bool, true, not, cond}
+use mathlib.Core.Logic.{inr}
+use mathlib.Core.Bool.{Bool, true, false, not, cond, true≢false}
 use mathlib.Core.List.{List}
-use Prim.Native.Nat.{ℕ, _≤_, _<_}
+use Prim.Native.Nat.{ℕ, zero, suc, _≤_, _<_}
 use native.Mathlib.Omega.{arith}
-use native.Mathlib.Decide.{decLt}
+use native.Mathlib.Decide.{decLe, decLt}
 use lib.Dec.{leb, eqb}
 use lib.ListN.{length, getD}
 use Rattle.ground.proofs.Lists.{getD-inside}
 use Rattle.refusal.specs.First.{allBelow}
-use Rattle.refusal.proofs.Says.{says-so, says-not, says-eq, says-le, says-cond, says-all}
+use Rattle.refusal.proofs.Says.{fails, says-so, says-not, says-eq, says-le, says-cond, says-all, says-or}
 use Rattle.record.specs.Kinds.{kinds, kindAt, pair}
-use Rattle.record.specs.Record.{firstGuess, encodeAll}
-use Rattle.record.specs.Decode.{Short, Absent, Fits, noRecord, decodeAt}
-use Rattle.record.specs.Entry.{startOf, lenOf, named, entryOf}
+use Rattle.record.specs.Record.{labelPlaces, longestText, firstGuess, encodeAll}
+use Rattle.record.specs.Decode.{hasPlace, Short, Fits, noRecord, decodeAt}
+use Rattle.record.specs.Entry.{noView, viewOf, named, entryOf}
 use Rattle.record.specs.declared.Record.{Record}
 use Rattle.record.proofs.Back.{decode-all}
 use Rattle.record.proofs.UpTo.{length-up-to}
-use Rattle.reader.specs.Page.{longestText, recordsIn}
-use Rattle.reader.proofs.SoundLines.{Proper}
+use Rattle.forms.proofs.SoundLines.{Proper}
+use Rattle.reader.specs.Page.{recordsIn}
 use Rattle.reader.proofs.SoundPage.{record-at}
 
 -- a guess has one label, and an instruction no pair: one computed test
@@ -30,11 +31,11 @@ all-shaped : allBelow (length kinds) shaped ≡ true
 all-shaped = refl
 
 module _ (s : List ℕ) (short : length s ≤ longestText) (guess : Bool) (r : Record) (p : Proper s guess r) where
-  label-short : (q : ℕ) → q < 4 → Short (startOf r q) (lenOf r q)
+  label-short : (q : ℕ) → q < labelPlaces → Short (viewOf r q)
   label-short q h =
       elim (decLt q (r .count)) [
         | yes a ↦ (let e = p .placed q h .used a in record { start-fits = omega arith; len-fits = omega arith })
-        | no a ↦ (let e = p .placed q h .unused (omega (arith, a)) in record { start-fits = omega (arith, e .0); len-fits = omega (arith, e .1) })
+        | no a ↦ rw (p .placed q h .unused (omega (arith, a))) (record { start-fits = omega arith; len-fits = omega arith })
       ]
 
   shape : (firstGuess ≤ r .kind → r .count ≡ 1) × ((firstGuess ≤ r .kind → ⊥) → kindAt (r .kind) .number ≡ pair → ⊥)
@@ -45,24 +46,27 @@ module _ (s : List ℕ) (short : length s ≤ longestText) (guess : Bool) (r : R
       .so (says-all shaped _ (λ k. says-so) (length kinds) .so all-shaped (r .kind) (p .sound .known .1)) in
       (λ g. sym n ∙ p .sound .count ∙ w .0 g, w .1)
 
-  label-absent : (q : ℕ) → q < 4 → 1 ≤ q → firstGuess ≤ r .kind → Absent (startOf r q) (lenOf r q)
-  label-absent q h o g =
-      let e = p .placed q h .unused (omega (arith, o, shape .0 g)) in
-      record { no-start = e .0; no-len = e .1 }
+  -- a place that its form does not have lies behind the one label of a guess
+  label-absent : (q : ℕ) → q < labelPlaces → hasPlace (r .kind) q ≡ false → viewOf r q ≡ noView
+  label-absent q h e =
+      elim (decLe firstGuess (r .kind)) [
+        | yes g ↦ p .placed q h .unused (omega (arith, shape .0 g, behind q e))
+        | no g ↦ absurd (fails (says-or (says-eq q 0) (says-not (says-le firstGuess (r .kind)))) e (inr g))
+      ]
+    where
+      behind : (q : ℕ) → hasPlace (r .kind) q ≡ false → 0 < q
+      behind zero e = absurd (true≢false e)
+      behind (suc q) e = omega arith
 
   proper-fits : Fits r
   unfolding entryOf
   proper-fits =
       record {
-        label0 = label-short 0 (omega arith);
-        label1 = label-short 1 (omega arith);
-        label2 = label-short 2 (omega arith);
-        label3 = label-short 3 (omega arith);
+        places = p .places;
+        short = label-short;
+        absent = label-absent;
         x-fits = p .x-fits;
         y-fits = p .y-fits;
-        absent1 = label-absent 1 (omega arith) (omega arith);
-        absent2 = label-absent 2 (omega arith) (omega arith);
-        absent3 = label-absent 3 (omega arith) (omega arith);
         no-y = λ h. p .sound .no-y (shape .1 (λ g. omega (arith, g, h)));
       }
 

@@ -1,103 +1,20 @@
--- A page (docs/FORMAT.md, "Problem"; `parse_problem` of parser.rs): its lines, its headings, what is told of it, and what a good reading writes.
+-- A page (docs/FORMAT.md, "Problem"; `parse_problem` of parser.rs): its headings and sections, what is told of it, and what a good reading writes.
 use mathlib.Core.Path.{_≡_}
 use mathlib.Core.Bool.{Bool, true, false, cond, _&&_}
-use mathlib.Core.List.{List, [], _∷_, _++_, map}
-use Prim.Native.Nat.{ℕ, zero, suc, _+_, _*_}
+use mathlib.Core.List.{List, _++_, map}
+use Prim.Native.Nat.{ℕ, _+_, _*_}
 use lib.Dec.{ltb}
 use lib.ListN.{length, drop}
 use Rattle.ground.specs.Words.{bytes}
-use Rattle.text.specs.Text.{from, refusedAt, runTo, wsOn, wordOn, byteOn, newlineOn}
+use Rattle.text.specs.Text.{orStand, due, runTo, wsOn, wordOn, byteOn, newlineOn}
 use Rattle.text.specs.declared.Stand.{Stand}
 use Rattle.text.specs.declared.Stand.the-variants.{At, Nothing, Refused}
-use Rattle.store.specs.Store.{room, written}
-use Rattle.record.specs.Record.{recordBytes, encode, encodeAll}
+use Rattle.record.specs.Record.{recordBytes, mostRecords, longestText, encodeAll}
 use Rattle.record.specs.declared.Record.{Record}
 use Rattle.record.specs.Entry.{Entry, entryOf}
-use Rattle.reader.specs.declared.forms.Line.{Line}
+use Rattle.forms.specs.Section.{linesOn}
 use Rattle.reader.specs.declared.Reading.{Reading}
 use Rattle.reader.specs.declared.Reading.the-variants as reading
-use Rattle.reader.specs.Forms.{orStand, instructionOn, guessOn}
-
--- ---- limits
-
--- a text has at most so many bytes, and a page at most so many records
-abbrev pub longestText : ℕ
-longestText = 32768
-
-abbrev pub mostRecords : ℕ
-mostRecords = 1800
-
--- ---- the records of a line
-
--- a record with another third byte and number
-abbrev pub component : Record → ℕ → ℕ → Record
-component r third x =
-    record {
-      kind = r .kind;
-      third = third;
-      count = r .count;
-      start0 = r .start0;
-      len0 = r .len0;
-      start1 = r .start1;
-      len1 = r .len1;
-      start2 = r .start2;
-      len2 = r .len2;
-      start3 = r .start3;
-      len3 = r .len3;
-      x = x;
-      y = 0;
-    }
-
--- one record or, of a twin, two: x then y
-abbrev pub recordsOf : Line → List Record
-recordsOf l = cond (l .twin) (component (l .first) 1 (l .first .x) ∷ component (l .first) 2 (l .first .y) ∷ []) (l .first ∷ [])
-
--- ---- lines
-
--- records that were read, and where reading stands behind them
-pub record Lines : Type 0 where
-  pub records : List Record
-  pub then : Stand
-
-abbrev pub none : Stand → Lines
-none stand = record { records = []; then = stand }
-
--- more records in front
-abbrev pub after : List Record → Lines → Lines
-after rs l = record { records = rs ++ l .records; then = l .then }
-
--- an instruction or a guess
-abbrev pub lineOn : Bool → List ℕ → Stand → Line
-lineOn false s stand = instructionOn s stand
-lineOn true s stand = guessOn s stand
-
--- where nothing more reads, reading stands at the last line's end; a refusal is handed on
-abbrev pub stopped : ℕ → Stand → Stand
-stopped at stand = orStand stand stand (At at)
-
--- a line that follows the line that ends at a place, and then the rest
-abbrev pub follow : Line → ℕ → (ℕ → Lines) → Lines
-follow l at rest = from (l .then) (none (stopped at (l .then))) (λ next. after (recordsOf l) (rest next))
-
--- at most so many lines more, each behind one new line
-unfoldable pub restOf : ℕ → Bool → List ℕ → ℕ → Lines
-restOf zero guesses s at = none (At at)
-restOf (suc most) guesses s at = follow (lineOn guesses s (newlineOn s (At at))) at (restOf most guesses s)
-
--- something was due at a place, and is refused there by this number
-abbrev pub missed : Stand → ℕ → Stand
-missed before number = from before Nothing (λ place. refusedAt number place)
-
--- something was due: where nothing was read, it is refused by this number at the place where it was due
-abbrev pub due : Stand → Stand → ℕ → Stand
-due before read number = orStand read read (missed before number)
-
--- one line, which is due, and the lines that follow it: fewer than the text has bytes
-unfoldable pub linesOn : Bool → List ℕ → Stand → ℕ → Lines
-linesOn guesses s stand number =
-    let first = lineOn guesses s stand in
-    let then = due stand (first .then) number in
-    from then (none then) (λ next. after (recordsOf first) (restOf (length s) guesses s next))
 
 -- ---- the page
 
@@ -178,34 +95,3 @@ bufferAfter whole s d = writtenBy (readingOf whole s (length d)) (recordsIn s) d
 pub record Reads (whole : Bool) (s d : List ℕ) (answer : Reading) (d′ : List ℕ) : Type 0 where
   pub told : answer ≡ readingOf whole s (length d)
   pub buffer : d′ ≡ bufferAfter whole s d
-
--- ---- how the code stores records as it reads them: those for which there is room
-
-abbrev pub store : List ℕ → ℕ → Record → List ℕ
-store d n r = cond (room d (n * recordBytes) (encode r)) (written d (n * recordBytes) (encode r)) d
-
-unfoldable pub stored : List ℕ → ℕ → List Record → List ℕ
-stored d n [] = d
-stored d n (r ∷ rs) = stored (store d n r) (n + 1) rs
-
--- records stored from a place on, and the next place
-pub record Stored (d : List ℕ) (n : ℕ) (rs : List Record) (next : ℕ) (d′ : List ℕ) : Type 0 where
-  pub next-is : next ≡ n + length rs
-  pub buffer : d′ ≡ stored d n rs
-
--- the records of lines stored from a place on, the next place, and where reading stands
-pub record StoredLines (d : List ℕ) (n : ℕ) (l : Lines) (next : ℕ) (then : Stand) (d′ : List ℕ) : Type 0 where
-  pub records : Stored d n (l .records) next d′
-  pub then-is : then ≡ l .then
-
--- a page read and its records stored
-pub record Paged (s d : List ℕ) (instructions guesses : ℕ) (then : Stand) (d′ : List ℕ) : Type 0 where
-  pub instructions-are : instructions ≡ length (problemOf s .instructions)
-  pub guesses-are : guesses ≡ length (problemOf s .guesses)
-  pub then-is : then ≡ problemOf s .then
-  pub buffer : d′ ≡ stored d 0 (recordsIn s)
-
--- what is told and written where the text has neither too many bytes nor a high one
-pub record Ended (whole : Bool) (s d : List ℕ) (answer : Reading) (d′ : List ℕ) : Type 0 where
-  pub told : answer ≡ endedOf whole s (problemOf s) (length d) (problemOf s .then)
-  pub buffer : d′ ≡ writtenBy answer (recordsIn s) d

@@ -1,5 +1,4 @@
 // Reading a page: its lines, its records, and the place where reading stops.
-mod forms;
 mod page;
 
 ghost use mathlib.Core.Bool.{true, false};

@@ -1,157 +1,19 @@
 // A page: its lines are read one by one into a buffer of the reader's own, so that a refusal finds the lent one untouched.
 ghost use mathlib.Core.Path.{_≡_};
-ghost use Prim.Native.Nat.{_+_, _*_, _≤_, _<_};
+ghost use Prim.Native.Nat.{_≤_, _<_};
 ghost use lib.ListN.{length};
-ghost use Rattle.record.specs.Kinds.{table};
-ghost use Rattle.reader.specs.Forms.{orStand};
-ghost use Rattle.reader.specs.Page.{component, recordsOf, lineOn, missed, due, headingOn, optNewlineOn, highAt, longestText, linesOn, Stored, StoredLines, Paged, Ended, Reads, refused, toldOf, store};
+ghost use Rattle.record.specs.Record.{longestText};
+ghost use Rattle.reader.specs.Page.{headingOn, optNewlineOn, highAt, Reads, refused, toldOf};
+ghost use Rattle.reader.specs.Steps.{Paged, Ended};
 use crate::Reading;
-use crate::forms;
-use crate::forms::Line;
-use record::Record;
-use record::kinds::KINDS;
 use refusal::Refusal;
 use text::Stand;
-
-// The most bytes of a text, and the most records of a page.
-const LONGEST_TEXT: usize = 32_768;
-
-const MOST_RECORDS: usize = 1_800;
-
-// Room for the most records.
-const ROOM: usize = 50_400;
-
-// How many records were read, and where reading stands behind them.
-pub(crate) struct Count {
-    pub(crate) count: usize,
-    pub(crate) then: Stand,
-}
 
 // How many records a page has of each sort, and where reading stands in the end.
 pub(crate) struct Page {
     pub(crate) instructions: usize,
     pub(crate) guesses: usize,
     pub(crate) then: Stand,
-}
-
-// A record with another third byte and number.
-fn with_component(r: Record, third: u8, x: u64) -> Record
-    ensures { λ c. ⌜ c ≡ component r third x ⌝ }
-{
-    Record {
-        kind: r.kind,
-        third,
-        count: r.count,
-        start0: r.start0,
-        len0: r.len0,
-        start1: r.start1,
-        len1: r.len1,
-        start2: r.start2,
-        len2: r.len2,
-        start3: r.start3,
-        len3: r.len3,
-        x,
-        y: 0,
-    }
-}
-
-// Puts a record at its place, where there is room.
-fn put_record(own: &mut [u8], n: usize, r: Record)
-    requires { ⌜ n ≤ 1000000 ⌝ }
-    ensures { λ _. ⌜ now (own .exit) ≡ store (now (own .entry)) n r ⌝ }
-{
-    let bytes = record::encode_record(r);
-    store::put(own, n * record::SIZE, &bytes);
-}
-
-// Puts the records of a line at their places, and answers the next place.
-fn put_line(own: &mut [u8], n: usize, line: Line) -> usize
-    requires { ⌜ n ≤ 999998 ⌝ }
-    ensures { λ r. ⌜ Stored (now (own .entry)) n (recordsOf line) r (now (own .exit)) ⌝ }
-{
-    let first = line.first;
-    if line.twin {
-        put_record(own, n, with_component(first, 1, first.x));
-        put_record(own, n + 1, with_component(first, 2, first.y));
-        return n + 2;
-    }
-    put_record(own, n, first);
-    n + 1
-}
-
-// An instruction or a guess.
-fn line_at(text: &[u8], stand: Stand, guesses: bool, kinds: &[[u8; 8]; 26]) -> Line
-    requires { ⌜ now kinds ≡ table ⌝ }
-    ensures { λ r. ⌜ r ≡ lineOn guesses (now (text .entry)) stand ⌝ }
-{
-    if guesses {
-        return forms::parse_guess(text, stand);
-    }
-    forms::parse_instruction(text, stand, kinds)
-}
-
-// What was read, or else another stand.
-fn or_stand(read: Stand, other: Stand) -> Stand
-    ensures { λ r. ⌜ r ≡ orStand read read other ⌝ }
-{
-    let Stand::Nothing = read else {
-        return read;
-    };
-    other
-}
-
-// What is due at a place is refused there by a number.
-fn missing(stand: Stand, number: u8) -> Stand
-    ensures { λ r. ⌜ r ≡ missed stand number ⌝ }
-{
-    let Stand::At(place) = stand else {
-        return Stand::Nothing;
-    };
-    Stand::Refused(Refusal { number, place })
-}
-
-// What was due and was not read is refused, by a number, at the place where it was due.
-fn refuse(stand: Stand, read: Stand, number: u8) -> Stand
-    ensures { λ r. ⌜ r ≡ due stand read number ⌝ }
-{
-    or_stand(read, missing(stand, number))
-}
-
-// A line, which is due, and those that follow it, each behind one new line. Where none reads, reading stands at the last line's end.
-fn lines(
-    text: &[u8],
-    stand: Stand,
-    guesses: bool,
-    number: u8,
-    own: &mut [u8],
-    start: usize,
-    kinds: &[[u8; 8]; 26],
-) -> Count
-    requires { ⌜ (now kinds ≡ table) × (length (now text) ≤ longestText) × (start ≤ 400000) ⌝ }
-    ensures { λ r. ⌜ StoredLines (now (own .entry)) start (linesOn guesses (now (text .entry)) stand number) (r .count) (r .then) (now (own .exit)) ⌝ }
-{
-    let mut next = stand;
-    let mut other = missing(stand, number);
-    let mut n = start;
-    let mut k = 0;
-    while k <= text.len() {
-        let line = line_at(text, next, guesses, kinds);
-        let then = line.then;
-        let Stand::At(_) = then else {
-            return Count {
-                count: n,
-                then: or_stand(then, other),
-            };
-        };
-        n = put_line(own, n, line);
-        next = text::newline(text, then);
-        other = then;
-        k += 1;
-    }
-    Count {
-        count: n,
-        then: other,
-    }
 }
 
 // `#`, spaces, a word, a new line.
@@ -176,22 +38,22 @@ fn opt_newline(text: &[u8], stand: Stand) -> Stand
 }
 
 // A page, its records stored in the reader's own buffer.
-fn read_page(text: &[u8], own: &mut [u8], kinds: &[[u8; 8]; 26]) -> Page
-    requires { ⌜ (now kinds ≡ table) × (length (now text) ≤ longestText) ⌝ }
+fn read_page(text: &[u8], own: &mut [u8]) -> Page
+    requires { ⌜ length (now text) ≤ longestText ⌝ }
     ensures { λ r. ⌜ Paged (now (text .entry)) (now (own .entry)) (r .instructions) (r .guesses) (r .then) (now (own .exit)) ⌝ }
 {
     let s = heading(text, Stand::At(0), b"constraints");
-    let s = refuse(Stand::At(0), s, 3);
-    let instructions = lines(text, s, false, 4, own, 0, kinds);
+    let s = text::refuse(Stand::At(0), s, 3);
+    let instructions = forms::read_section(text, s, false, 4, own, 0);
     let i = instructions.count;
     let then = instructions.then;
     let s = text::newline(text, then);
     let s = text::newline(text, s);
-    let gap = refuse(then, s, 5);
+    let gap = text::refuse(then, s, 5);
     let s = text::ws(text, gap);
     let s = heading(text, s, b"guesses");
-    let s = refuse(gap, s, 6);
-    let guesses = lines(text, s, true, 7, own, i, kinds);
+    let s = text::refuse(gap, s, 6);
+    let guesses = forms::read_section(text, s, true, 7, own, i as u32);
     let n = guesses.count;
     let s = guesses.then;
     let s = opt_newline(text, s);
@@ -256,7 +118,7 @@ fn tell(text: &[u8], page: Page, whole: bool, bytes: usize, end: usize) -> Readi
     if whole & (end < text.len()) {
         return refused(10, end);
     }
-    if MOST_RECORDS < count {
+    if record::MOST < count {
         return refused(11, 0);
     }
     if bytes < record::SIZE * count {
@@ -270,10 +132,10 @@ fn tell(text: &[u8], page: Page, whole: bool, bytes: usize, end: usize) -> Readi
 }
 
 // Zeros for the most records.
-fn room() -> [u8; ROOM]
+fn room() -> [u8; record::ROOM]
     ensures { λ r. ⌜ 50400 ≡ length r ⌝ }
 {
-    [0; ROOM]
+    [0; record::ROOM]
 }
 
 // Reads a page into the reader's own buffer, and copies its records where they fit.
@@ -281,9 +143,8 @@ fn read_into(text: &[u8], records: &mut [u8], whole: bool) -> Reading
     requires { ⌜ length (now text) ≤ longestText ⌝ }
     ensures { λ r. ⌜ Ended whole (now (text .entry)) (now (records .entry)) r (now (records .exit)) ⌝ }
 {
-    let kinds = KINDS;
     let mut own = room();
-    let page = read_page(text, &mut own, &kinds);
+    let page = read_page(text, &mut own);
     let then = page.then;
     match then {
         Stand::At(end) => {
@@ -309,7 +170,7 @@ fn read_into(text: &[u8], records: &mut [u8], whole: bool) -> Reading
 pub(crate) fn read(text: &[u8], records: &mut [u8], whole: bool) -> Reading
     ensures { λ r. ⌜ Reads whole (now (text .entry)) (now (records .entry)) r (now (records .exit)) ⌝ }
 {
-    if LONGEST_TEXT < text.len() {
+    if record::LONGEST < text.len() {
         return refused(1, 0);
     }
     let high = high_at(text);

@@ -1,7 +1,7 @@
 -- `reader::page::opt_newline` meets its contract: it goes by whether a new line reads. Assumes nothing.
 use borrow.Author.Needs.{needs}
 use Rattle.reader.specs.Page.{optNewlineOn}
-use Rattle.reader.proofs.Choice.{taken}
+use Rattle.text.proofs.Laws.{taken}
 use Rattle.reader.proofs.page.opt_newline.Statement.{statement}
 use Rattle.reader.proofs.page.opt_newline.Tie as tie
 

@@ -10,15 +10,15 @@ use Rattle.reader.proofs.page.read_into.Tie as tie
 
 tell-requires : tie.Need-tell-requires
 tell-requires c κs =
-    let start = c .before .before .before .before .before .before .before .before .before .before in
+    let start = c .before .before .before .before .before .before .before .before .before in
     let p = c .before .before .before .before .read-page .ensures in
     (omega (arith, start .pre, p .instructions-are, instructions-few (start .args .text .now)), omega (arith, start .pre, p .guesses-are, guesses-few (start .args .text .now)))
 
 returns : tie.Need-returns
 returns c =
-    let a = c .before .before .before .before .before .before .before .before .before .before .before .before .before .args in
+    let a = c .before .before .before .before .before .before .before .before .before .before .before .before .args in
     let p = c .before .before .before .before .before .before .before .read-page in
-    let zeros = c .before .before .before .before .before .before .before .before .before .before .room in
+    let zeros = c .before .before .before .before .before .before .before .before .before .room in
     let tell = c .before .before .tell in
     let end = c .before .before .before .before .then .given in
     let refused = c .enum-told .given in
@@ -26,9 +26,9 @@ returns c =
 
 add-n : tie.Need-add-n
 add-n c =
-    let a = c .before .before .before .before .before .before .before .before .before .before .before .before .before .before .args in
+    let a = c .before .before .before .before .before .before .before .before .before .before .before .before .before .args in
     let p = c .before .before .before .before .before .before .before .before .read-page in
-    let zeros = c .before .before .before .before .before .before .before .before .before .before .before .room in
+    let zeros = c .before .before .before .before .before .before .before .before .before .before .room in
     let tell = c .before .before .before .tell in
     let end = c .before .before .before .before .before .then .given in
     let good = c .before .told .given in
@@ -36,9 +36,9 @@ add-n c =
 
 mul-n : tie.Need-mul-n
 mul-n c =
-    let a = c .before .before .before .before .before .before .before .before .before .before .before .before .before .before .args in
+    let a = c .before .before .before .before .before .before .before .before .before .before .before .before .before .args in
     let p = c .before .before .before .before .before .before .before .before .read-page in
-    let zeros = c .before .before .before .before .before .before .before .before .before .before .before .room in
+    let zeros = c .before .before .before .before .before .before .before .before .before .before .room in
     let tell = c .before .before .before .tell in
     let end = c .before .before .before .before .before .then .given in
     let good = c .before .told .given in
@@ -46,9 +46,9 @@ mul-n c =
 
 array-share-prefix-own : tie.Need-array-share-prefix-own
 array-share-prefix-own c =
-    let a = c .before .before .before .before .before .before .before .before .before .before .before .before .before .before .before .args in
+    let a = c .before .before .before .before .before .before .before .before .before .before .before .before .before .before .args in
     let p = c .before .before .before .before .before .before .before .before .before .read-page in
-    let zeros = c .before .before .before .before .before .before .before .before .before .before .before .before .room in
+    let zeros = c .before .before .before .before .before .before .before .before .before .before .before .room in
     let tell = c .before .before .before .before .tell in
     let end = c .before .before .before .before .before .before .then .given in
     let good = c .before .before .told .given in
@@ -56,9 +56,9 @@ array-share-prefix-own c =
 
 slice-aggregate-put : tie.Need-slice-aggregate-put
 slice-aggregate-put c =
-    let a = c .before .before .before .before .before .before .before .before .before .before .before .before .before .before .before .before .args in
+    let a = c .before .before .before .before .before .before .before .before .before .before .before .before .before .before .before .args in
     let p = c .before .before .before .before .before .before .before .before .before .before .read-page in
-    let zeros = c .before .before .before .before .before .before .before .before .before .before .before .before .before .room in
+    let zeros = c .before .before .before .before .before .before .before .before .before .before .before .before .room in
     let tell = c .before .before .before .before .before .tell in
     let end = c .before .before .before .before .before .before .before .then .given in
     let good = c .before .before .before .told .given in
@@ -66,9 +66,9 @@ slice-aggregate-put c =
 
 returns-2 : tie.Need-returns-2
 returns-2 c =
-    let a = c .before .before .before .before .before .before .before .before .before .before .before .before .before .before .before .before .before .before .before .args in
+    let a = c .before .before .before .before .before .before .before .before .before .before .before .before .before .before .before .before .before .before .args in
     let p = c .before .before .before .before .before .before .before .before .before .before .before .before .before .read-page in
-    let zeros = c .before .before .before .before .before .before .before .before .before .before .before .before .before .before .before .before .room in
+    let zeros = c .before .before .before .before .before .before .before .before .before .before .before .before .before .before .before .room in
     let tell = c .before .before .before .before .before .before .before .before .tell in
     let end = c .before .before .before .before .before .before .before .before .before .before .then .given in
     let good = c .before .before .before .before .before .before .told .given in
@@ -76,17 +76,17 @@ returns-2 c =
 
 returns-3 : tie.Need-returns-3
 returns-3 c =
-    let a = c .before .before .before .before .before .before .before .before .before .before .args in
+    let a = c .before .before .before .before .before .before .before .before .before .args in
     let p = c .before .before .before .before .read-page in
-    let zeros = c .before .before .before .before .before .before .before .room in
+    let zeros = c .before .before .before .before .before .before .room in
     rw (c .refused .ensures)
     (nothing-left (a .whole) (a .text .now) (a .records .now) (zeros .result) (p .last .1 .0) (p .result .instructions) (p .result .guesses) (p .result .then) (p .ensures) (c .before .enum-told2 .given .1))
 
 returns-4 : tie.Need-returns-4
 returns-4 c =
-    let a = c .before .before .before .before .before .before .before .before .before .before .args in
+    let a = c .before .before .before .before .before .before .before .before .before .args in
     let p = c .before .before .before .before .read-page in
-    let zeros = c .before .before .before .before .before .before .before .room in
+    let zeros = c .before .before .before .before .before .before .room in
     let refused = c .before .then2 .given in
     handed-on (a .whole) (a .text .now) (a .records .now) (zeros .result) (p .last .1 .0) (p .result .instructions) (p .result .guesses) (p .result .then) (p .ensures) (refused .0 .0) (refused .1)
 

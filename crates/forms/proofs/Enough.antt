@@ -1,0 +1,67 @@
+-- The count that bounds the lines of a section is always enough: a larger one reads the same lines. Assumes nothing.
+use mathlib.Core.Path.{_≡_, refl, ap}
+use mathlib.Core.Bool.{Bool, true, false, cond}
+use mathlib.Core.List.{List, [], _∷_}
+use Prim.Native.Nat.{ℕ, zero, suc, _+_, _≤_}
+use native.Mathlib.Omega.{arith}
+use lib.ListN.{length, drop, length-drop}
+use Rattle.text.specs.Text.{from, starts, wordAt, byteOn, newlineOn}
+use Rattle.text.specs.declared.Stand.{Stand}
+use Rattle.text.specs.declared.Stand.the-variants.{At, Nothing, Refused}
+use Rattle.text.proofs.Laws.{starts-short}
+use Rattle.text.proofs.Within.{starts-length}
+use Rattle.forms.specs.Forms.{Lines, noLine, lineOn}
+use Rattle.forms.specs.Section.{followedBy, stopped, follow, restOf}
+use Rattle.forms.proofs.Kept.{line-kept}
+use Rattle.forms.proofs.Stands.{In, kept-in}
+use Rattle.forms.proofs.Begin.{line-nowhere}
+
+module _ (s : List ℕ) where
+  -- ---- a line that follows ends further on, inside the text
+
+  new-line : (at : ℕ) (t : Bool) → starts (10 ∷ []) (drop at s) ≡ t → In s (at + 1) (cond t (At (at + 1)) Nothing)
+  new-line at true e = record { is = (omega arith, omega (arith, starts-length (10 ∷ []) (drop at s) e, length-drop at s)) }
+  new-line at false e = record { is = tt }
+
+  pub newline-in : (at : ℕ) → In s (at + 1) (newlineOn s (At at))
+  unfolding byteOn wordAt
+  newline-in at = new-line at (starts (10 ∷ []) (drop at s)) refl
+
+  past-end : (g : Bool) (at : ℕ) → length s ≤ at → lineOn g s (newlineOn s (At at)) ≡ noLine Nothing
+  unfolding byteOn wordAt
+  past-end g at h = rw (starts-short (10 ∷ []) s 0 at (omega arith) h) (line-nowhere s g)
+
+  -- ---- what follows by another count
+
+  same-follow : (l : Lines) (at : ℕ) (f h : ℕ → Lines) → ((next : ℕ) → In s (at + 1) (At next) → f next ≡ h next) → In s (at + 1) (l .then) → follow l at f ≡ follow l at h
+  same-follow l at f h e k = go (l .then) k
+    where
+      go : (t : Stand) → In s (at + 1) t
+          → from t (noLine (stopped at t)) (λ next. followedBy (l .records) (f next)) ≡ from t (noLine (stopped at t)) (λ next. followedBy (l .records) (h next))
+      go (At next) i = ap (followedBy (l .records)) (e next i)
+      go Nothing i = refl
+      go (Refused why) i = refl
+
+  -- one line more than none makes no difference past the end
+  none-past : (k : ℕ) (g : Bool) (at : ℕ) → length s ≤ at → restOf k g s at ≡ noLine (At at)
+  unfolding restOf
+  none-past zero g at h = refl
+  none-past (suc k) g at h = rw (past-end g at h)
+
+  one-more : (m k : ℕ) (g : Bool) (at : ℕ) → ((next : ℕ) → In s (at + 1) (At next) → restOf (m + k) g s next ≡ restOf m g s next)
+      → restOf (suc (m + k)) g s at ≡ restOf (suc m) g s at
+  unfolding restOf
+  one-more m k g at e =
+      same-follow (lineOn g s (newlineOn s (At at))) at (restOf (m + k) g s) (restOf m g s) e (line-kept (kept-in s (at + 1)) g (newline-in at))
+
+  enough : (m : ℕ) (g : Bool) (at k : ℕ) → length s ≤ at + m → restOf (m + k) g s at ≡ restOf m g s at
+  enough zero g at k h =
+      let e : 0 + k ≡ k = omega arith in
+      rw (e, none-past k g at (omega arith), none-past 0 g at (omega arith))
+  enough (suc m) g at k h =
+      let e : suc m + k ≡ suc (m + k) = omega arith in
+      rw e (one-more m k g at (λ next i. enough m g next k (omega (arith, i .is .0))))
+
+-- the text has as many bytes as lines may follow, and more make no difference
+pub always-enough : (s : List ℕ) (g : Bool) (at k : ℕ) → restOf (length s + k) g s at ≡ restOf (length s) g s at
+always-enough s g at k = enough s (length s) g at k (omega arith)

@@ -1,0 +1,13 @@
+pub mod Kept
+pub mod Stands
+pub mod Words
+pub mod Begin
+pub mod Table
+pub mod Order
+pub mod Storing
+pub mod Turns
+pub mod Enough
+pub mod Found
+pub mod SoundLines
+pub mod SoundSection
+pub mod Only

@@ -1,0 +1,65 @@
+-- Records stored one after another. Assumes nothing.
+use mathlib.Core.Path.{_≡_, refl, sym, _∙_}
+use mathlib.Core.Bool.{Bool, true, false, cond}
+use mathlib.Core.List.{List, [], _∷_, _++_}
+use Prim.Native.Nat.{ℕ, suc, _+_, _*_, _≤_}
+use native.Mathlib.Nat.{add-zero}
+use native.Mathlib.Omega.{arith}
+use lib.Dec.{leb→le}
+use borrow.Author.Tests.{le-leb}
+use lib.ListN.{length}
+use Rattle.store.specs.Store.{room, written}
+use Rattle.store.proofs.Laws.{written-length, written-append, written-none}
+use Rattle.record.specs.Record.{recordBytes, encode, encodeAll}
+use Rattle.record.specs.declared.Record.{Record}
+use Rattle.record.proofs.Back.{length-encode, count-all}
+use Rattle.forms.specs.declared.pieces.Parsed.{Parsed}
+use Rattle.forms.specs.Section.{store, stored}
+use Rattle.forms.specs.Steps.{component, recordsOf, Stored}
+
+-- ---- lengths
+
+kept-length : (t : Bool) (d : List ℕ) (at : ℕ) (bs : List ℕ) → room d at bs ≡ t → length (cond t (written d at bs) d) ≡ length d
+kept-length true d at bs e = written-length d at bs (leb→le (at + length bs) (length d) (rw e tt))
+kept-length false d at bs e = refl
+
+store-length : (d : List ℕ) (n : ℕ) (r : Record) → length (store d n r) ≡ length d
+store-length d n r = kept-length (room d (n * recordBytes) (encode r)) d (n * recordBytes) (encode r) refl
+
+pub stored-length : (d : List ℕ) (n : ℕ) (rs : List Record) → length (stored d n rs) ≡ length d
+unfolding stored
+stored-length d n [] = refl
+stored-length d n (r ∷ rs) = stored-length (store d n r) (n + 1) rs ∙ store-length d n r
+
+-- ---- one after another
+
+pub stored-append : (d : List ℕ) (n : ℕ) (rs ts : List Record) → stored d n (rs ++ ts) ≡ stored (stored d n rs) (n + length rs) ts
+unfolding stored
+stored-append d n [] ts = rw (add-zero n)
+stored-append d n (r ∷ rs) ts =
+    let e : n + 1 + length rs ≡ n + suc (length rs) = omega arith in
+    rw (← e) (stored-append (store d n r) (n + 1) rs ts)
+
+-- ---- the records of a line
+
+module _ (l : Parsed) (d d′ : List ℕ) (n : ℕ) where
+  pub one-stored : l .two ≡ false → d′ ≡ store d n (l .first) → Stored d n (recordsOf l) (n + 1) d′
+  unfolding stored
+  one-stored t e = rw t (record { next-is = refl; buffer = e })
+
+  pub two-stored : (d₁ : List ℕ) (x y : Record) → l .two ≡ true → x ≡ component (l .first) 1 (l .first .x) → y ≡ component (l .first) 2 (l .first .y)
+      → d₁ ≡ store d n x → d′ ≡ store d₁ (n + 1) y → Stored d n (recordsOf l) (n + 2) d′
+  unfolding stored
+  two-stored d₁ x y t ex ey e f = rw (t, ← ex, ← ey) (record { next-is = refl; buffer = rw e at f })
+
+-- ---- all records, where there is room for all
+
+pub stored-all : (d : List ℕ) (n : ℕ) (rs : List Record) → (n + length rs) * recordBytes ≤ length d → stored d n rs ≡ written d (n * recordBytes) (encodeAll rs)
+unfolding stored encodeAll
+stored-all d n [] h = sym (written-none d (n * recordBytes) (omega arith))
+stored-all d n (r ∷ rs) h =
+    let size = length-encode r in
+    let here : store d n r ≡ written d (n * recordBytes) (encode r) = rw (le-leb (n * recordBytes + length (encode r)) (length d) (omega arith)) in
+    let place : (n + 1) * recordBytes ≡ n * recordBytes + length (encode r) = omega arith in
+    stored-all (store d n r) (n + 1) rs (omega (arith, store-length d n r))
+    ∙ rw (here, place) (written-append d (n * recordBytes) (encode r) (encodeAll rs) (omega (arith, count-all rs)))

@@ -1,0 +1,110 @@
+-- The loop over the lines of a section: what is left to read, behind what has been stored. Assumes nothing.
+use mathlib.Core.Path.{_≡_, refl, sym, _∙_}
+use mathlib.Core.Bool.{Bool, true, false}
+use mathlib.Core.List.{List, [], _∷_}
+use Prim.Native.Nat.{ℕ, zero, suc, _+_, _-_, _*_, _≤_, _<_}
+use native.Mathlib.Omega.{arith}
+use lib.ListN.{length, length-append}
+use types.Run.{OneOf}
+use denote.Enum.Declared.{tagOf}
+use Rattle.text.specs.Text.{from, orStand, missed, newlineOn}
+use Rattle.text.specs.declared.Stand.{Stand}
+use Rattle.text.specs.declared.Stand.the-variants.{At, Nothing, Refused}
+use Rattle.text.proofs.Laws.{handed}
+use Rattle.text.proofs.Stand.{the-type}
+use Rattle.forms.specs.declared.Count.{Count}
+use Rattle.forms.specs.declared.pieces.Parsed.{Parsed}
+use Rattle.forms.specs.Forms.{Lines, noLine, lineOn}
+use Rattle.forms.specs.Section.{followedBy, restOf, linesOn, stored, SectionRead}
+use Rattle.forms.specs.Steps.{recordsOf, meant}
+use Rattle.forms.proofs.Storing.{stored-length, stored-append}
+
+-- a line that was read has one record or two
+few-records : (l : Parsed) → length (recordsOf l) ≤ 2
+few-records l = go (l .two) refl
+  where
+    go : (t : Bool) → l .two ≡ t → length (recordsOf l) ≤ 2
+    go true e = rw e (omega arith)
+    go false e = rw e (omega arith)
+
+-- ---- what is left to read
+
+-- at most so many lines, the next of which is due at a stand; where it does not read, reading stands at the other
+pub leftOf : ℕ → Bool → List ℕ → Stand → Stand → Lines
+leftOf zero g s stand other = noLine other
+leftOf (suc most) g s stand other =
+    let l = lineOn g s stand in
+    from (l .then) (noLine (orStand (l .then) (l .then) other)) (λ next. followedBy (l .records) (restOf most g s next))
+
+rest-left : (most : ℕ) (g : Bool) (s : List ℕ) (at : ℕ) → restOf most g s at ≡ leftOf most g s (newlineOn s (At at)) (At at)
+unfolding restOf leftOf
+rest-left zero g s at = refl
+rest-left (suc most) g s at = refl
+
+-- what is missed is no place
+missed-none : (stand : Stand) (number : ℕ) (read : ℕ → Lines) → from (missed stand number) (noLine (missed stand number)) read ≡ noLine (missed stand number)
+missed-none (At place) number read = refl
+missed-none Nothing number read = refl
+missed-none (Refused why) number read = refl
+
+lines-left : (g : Bool) (s : List ℕ) (stand : Stand) (number : ℕ) → linesOn g s stand number ≡ leftOf (suc (length s)) g s stand (missed stand number)
+unfolding linesOn leftOf
+lines-left g s stand number = go (lineOn g s stand .then) (λ next. followedBy (lineOn g s stand .records) (restOf (length s) g s next))
+  where
+    go : (t : Stand) (read : ℕ → Lines)
+        → from (orStand t t (missed stand number)) (noLine (orStand t t (missed stand number))) read ≡ from t (noLine (orStand t t (missed stand number))) read
+    go (At n) read = refl
+    go Nothing read = missed-none stand number read
+    go (Refused why) read = refl
+
+-- ---- what holds at the loop's head: k lines were read, n is the next place, the next line is due at a stand, and reading stands at the other without it
+
+pub record Left (g : Bool) (s d₀ : List ℕ) (start : ℕ) (all : Lines) (d : List ℕ) (n : ℕ) (stand other : Stand) (k : ℕ) : Type 0 where
+  pub buffer : stored d₀ start (all .records) ≡ stored d n (leftOf (suc (length s) - k) g s stand other .records)
+  pub count : start + length (all .records) ≡ n + length (leftOf (suc (length s) - k) g s stand other .records)
+  pub then : all .then ≡ leftOf (suc (length s) - k) g s stand other .then
+  pub size : length d ≡ length d₀
+  pub few : n ≤ start + 2 * k
+
+module _ (g : Bool) (s d₀ : List ℕ) (start : ℕ) where
+  pub first : (stand : Stand) (number : ℕ) → Left g s d₀ start (linesOn g s stand number) d₀ start stand (missed stand number) 0
+  first stand number =
+      let e : suc (length s) - 0 ≡ suc (length s) = omega arith in
+      let all = lines-left g s stand number in
+      record { buffer = rw (e, all); count = rw (e, all); then = rw (e, all); size = refl; few = omega arith }
+
+  module _ (all : Lines) (d : List ℕ) (n : ℕ) (stand other : Stand) (k : ℕ) (l : Left g s d₀ start all d n stand other k) where
+    -- the loop ends where nothing more is left
+    ended : (then : Stand) → leftOf (suc (length s) - k) g s stand other ≡ noLine then → SectionRead d₀ start all (record { count = n; then = then }) d
+    unfolding stored
+    ended then e =
+        record { count-is = omega (arith, rw e at (l .count)); then-is = sym (rw e at (l .then)); buffer = sym (rw e at (l .buffer)) }
+
+    module _ (line : Parsed) (line-is : meant line ≡ lineOn g s stand) (h : k ≤ length s) where
+      line-left : leftOf (suc (length s) - k) g s stand other
+          ≡ from (line .then) (noLine (orStand (line .then) (line .then) other)) (λ next. followedBy (meant line .records) (restOf (length s - k) g s next))
+      unfolding leftOf
+      line-left = let one : suc (length s) - k ≡ suc (length s - k) = omega arith in rw (one, ← line-is)
+
+      pub turn : (next : ℕ) → line .then ≡ At next
+          → Left g s d₀ start all (stored d n (recordsOf line)) (n + length (recordsOf line)) (newlineOn s (At next)) (At next) (k + 1)
+      turn next e =
+          let less : suc (length s) - (k + 1) ≡ length s - k = omega arith in
+          let more = leftOf (suc (length s) - (k + 1)) g s (newlineOn s (At next)) (At next) in
+          let here : leftOf (suc (length s) - k) g s stand other ≡ followedBy (recordsOf line) more = rw (line-left, e, less, rest-left (length s - k) g s next) in
+          record {
+            buffer = l .buffer ∙ rw here (stored-append d n (recordsOf line) (more .records));
+            count = omega (arith, rw here at (l .count), length-append (recordsOf line) (more .records));
+            then = rw here at (l .then);
+            size = stored-length d n (recordsOf line) ∙ l .size;
+            few = omega (arith, few-records line);
+          }
+
+      pub halt : OneOf (1 ∷ 2 ∷ []) (tagOf the-type (line .then)) → SectionRead d₀ start all (record { count = n; then = orStand (line .then) (line .then) other }) d
+      halt o = ended (orStand (line .then) (line .then) other) (rw line-left (sym (handed (line .then) _ _ o)))
+
+    pub over : length s < k → SectionRead d₀ start all (record { count = n; then = other }) d
+    unfolding leftOf
+    over h =
+        let none-left : suc (length s) - k ≡ 0 = omega arith in
+        ended other (rw none-left)

@@ -1,0 +1,25 @@
+-- `forms::lines::guessed` meets its contract: it goes by whether a pair reads. Assumes nothing.
+use borrow.Author.Needs.{needs}
+use Rattle.forms.specs.Forms.{guessedOn}
+use Rattle.text.proofs.Laws.{taken}
+use Rattle.forms.proofs.lines.guessed.Statement.{statement}
+use Rattle.forms.proofs.lines.guessed.Tie as tie
+
+returns : tie.Need-returns
+unfolding guessedOn
+returns c =
+    let p = c .before .before .parse-point in
+    rw (← p .ensures, c .labelled .ensures) (taken (p .result .then) _ _ (c .before .match .keys2))
+
+returns-2 : tie.Need-returns-2
+unfolding guessedOn
+returns-2 c =
+    rw (
+      ← c .before .before .before .before .parse-point .ensures,
+      c .before .before .enum-told .given .1,
+      ← c .before .parse-number .ensures,
+      c .labelled2 .ensures,
+    )
+
+pub guessed-spec : {M : Type 1} → statement M
+guessed-spec = tie.close (tie.spec (λ c κs. search needs) (λ c. search needs) (λ c κs. search needs) returns (λ c κs. search needs) (λ c κs. search needs) returns-2)

@@ -1,0 +1,16 @@
+-- `forms::pieces::more` meets its contract: it goes by the flag. Assumes nothing.
+use borrow.Author.Needs.{needs}
+use Rattle.forms.specs.Forms.{moreOn}
+use Rattle.forms.proofs.pieces.more.Statement.{statement}
+use Rattle.forms.proofs.pieces.more.Tie as tie
+
+returns : tie.Need-returns
+unfolding moreOn
+returns c = rw (c .before .before .if1 .taken, ← c .before .around .ensures) (c .parse-label .ensures)
+
+returns-2 : tie.Need-returns-2
+unfolding moreOn
+returns-2 c = rw (c .before .if1 .left) (c .no-label .ensures)
+
+pub more-spec : {M : Type 1} → statement M
+more-spec = tie.close (tie.spec (λ c κs. search needs) (λ c κs. search needs) returns (λ c κs. search needs) returns-2)

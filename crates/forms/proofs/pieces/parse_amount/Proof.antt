@@ -1,0 +1,47 @@
+-- `forms::pieces::parse_amount` meets its contract: it goes by the sort of number. Assumes nothing.
+use borrow.Author.Needs.{needs}
+use borrow.Author.Tests.{eq-eqb, ne-eqb}
+use Rattle.forms.specs.Forms.{amountOn}
+use Rattle.forms.proofs.pieces.parse_amount.Statement.{statement}
+use Rattle.forms.proofs.pieces.parse_amount.Tie as tie
+
+returns : tie.Need-returns
+unfolding amountOn
+returns c = rw (eq-eqb _ _ (c .if1 .taken))
+
+returns-2 : tie.Need-returns-2
+unfolding amountOn
+returns-2 c =
+    rw (
+      ne-eqb _ _ (c .before .before .before .before .if1 .left),
+      ← c .before .before .before .around .ensures,
+      eq-eqb _ _ (c .before .before .if2 .taken),
+      ← c .before .parse-number .ensures,
+    )
+    (c .plain-amount .ensures)
+
+returns-3 : tie.Need-returns-3
+unfolding amountOn
+returns-3 c =
+    rw (
+      ne-eqb _ _ (c .before .before .before .before .before .if1 .left),
+      ← c .before .before .before .before .around .ensures,
+      ne-eqb _ _ (c .before .before .before .if2 .left),
+      eq-eqb _ _ (c .before .before .if3 .taken),
+      ← c .before .parse-number-expr .ensures,
+    )
+    (c .plain-amount2 .ensures)
+
+returns-4 : tie.Need-returns-4
+unfolding amountOn
+returns-4 c =
+    rw (
+      ne-eqb _ _ (c .before .before .before .before .if1 .left),
+      ← c .before .before .before .around .ensures,
+      ne-eqb _ _ (c .before .before .if2 .left),
+      ne-eqb _ _ (c .before .if3 .left),
+    )
+    (c .parse-angle .ensures)
+
+pub parse-amount-spec : {M : Type 1} → statement M
+parse-amount-spec = tie.close (tie.spec returns (λ c κs. search needs) (λ c κs. search needs) (λ c κs. search needs) returns-2 (λ c κs. search needs) (λ c κs. search needs) returns-3 (λ c κs. search needs) returns-4)

@@ -1,7 +1,0 @@
--- `reader::forms::label_behind` meets its contract: spaces, then a label. Assumes nothing.
-use borrow.Author.Needs.{needs}
-use Rattle.reader.proofs.forms.label_behind.Statement.{statement}
-use Rattle.reader.proofs.forms.label_behind.Tie as tie
-
-pub label-behind-spec : {M : Type 1} → statement M
-label-behind-spec = tie.close (tie.spec (λ c κs. search needs) (λ c κs. search needs) (λ c. cc))
