@@ -7,9 +7,9 @@ use Prim.Native.Nat.{ℕ}
 use lib.Dec.{eqb, leb}
 use lib.ListN.{length}
 use lib.Ieee.{Float, binary64, toBits}
+use Rattle.record.specs.Record.{labelPlaces}
 use Rattle.record.specs.Decode.{decodeAt}
-use Rattle.record.specs.Entry.{Label, startOf}
-use Rattle.record.specs.Sound.{labelPlaces}
+use Rattle.record.specs.Entry.{Label, viewOf}
 use Rattle.reader.specs.declared.Reading.{Reading}
 use Rattle.reader.specs.declared.Reading.the-variants as reading
 use Rattle.drawing.specs.declared.Checked.{Checked}
@@ -75,12 +75,12 @@ pub record Tells {A : Type 0} (promise : A → Type 0) (told : A → Told) (code
 -- a reading: how many instructions and guesses there are, and where it stopped
 abbrev pub readingTold : Reading → Told
 readingTold (reading.Good instructions guesses end) = good (instructions ∷ guesses ∷ end ∷ 0 ∷ 0 ∷ 0 ∷ [])
-readingTold (reading.Refused number place) = refused number place
+readingTold (reading.Refused r) = refused (r .number) (r .place)
 
 -- a check: how many points, circles, arcs and rows there are
 abbrev pub checkedTold : Checked → Told
 checkedTold (checked.Passed points circles arcs rows) = good (points ∷ circles ∷ arcs ∷ rows ∷ 0 ∷ 0 ∷ [])
-checkedTold (checked.Refused number place) = refused number place
+checkedTold (checked.Refused r) = refused (r .number) (r .place)
 
 -- a layout by its counts and the number of its stage, and two numbers more
 abbrev pub layoutParts : Layout → ℕ → ℕ → List ℕ
@@ -89,7 +89,7 @@ layoutParts l e f = l .points ∷ l .circles ∷ l .arcs ∷ stageNumber (l .sta
 -- a lowering: the layout, the next id, and how many rows there are
 abbrev pub loweredTold : Lowered → Told
 loweredTold (lowered.Good layout next rows) = good (layoutParts layout next rows)
-loweredTold (lowered.Refused number place) = refused number place
+loweredTold (lowered.Refused r) = refused (r .number) (r .place)
 
 -- the bits of a number
 abbrev pub bitsOf : Float → ℕ
@@ -97,7 +97,7 @@ bitsOf x = toBits binary64 x
 
 -- where label q of a record starts, given its length; an empty one starts at 0
 abbrev pub labelStart : List ℕ → ℕ → ℕ → ℕ
-labelStart b q len = cond (eqb len 0) 0 (cond (leb labelPlaces q) 0 (startOf (decodeAt b 0) q))
+labelStart b q len = cond (eqb len 0) 0 (cond (leb labelPlaces q) 0 (viewOf (decodeAt b 0) q .start))
 
 -- label q of a record: its start and its length
 abbrev pub labelTold : List ℕ → ℕ → Label → Told
@@ -111,7 +111,7 @@ angleParts (Radians x) = 2 ∷ bitsOf x ∷ 0 ∷ 0 ∷ 0 ∷ 0 ∷ []
 -- what a record that is asked for its angle tells
 abbrev pub askedTold : Asked → Told
 askedTold (asked.Angle a) = good (angleParts a)
-askedTold (asked.Refused number place) = refused number place
+askedTold (asked.Refused r) = refused (r .number) (r .place)
 
 -- ---- layouts
 
