@@ -12,7 +12,7 @@ use Rattle.record.specs.Kinds.{newPoint, newCircle, newArc, fixComponent, fixCe
 use Rattle.record.specs.declared.Record.{Record}
 use Rattle.forms.specs.declared.pieces.Parsed.{Parsed}
 use Rattle.forms.specs.declared.declarations.Declared.{Declared}
-use Rattle.forms.specs.Forms.{Lines, lineOf, orLine, labelled, declareOn, fixedOn, assignOn, order, firstOf}
+use Rattle.forms.specs.Forms.{Lines, lineOf, orLine, labelled, declareOn, fixedOn, assignOn, keywordKinds, firstOf}
 use Rattle.forms.specs.Section.{stored}
 
 -- ---- a line as the code hands it about
@@ -46,7 +46,7 @@ declared d = lineOf (labelled (d .kind) 0 (d .label) 0 0 ∷ []) (d .label .then
 
 -- an assignment, then the keyword forms
 abbrev pub assignedOn : List ℕ → Stand → Label → Lines
-assignedOn s at l = orLine (assignOn s l) (firstOf s at order)
+assignedOn s at l = orLine (assignOn s l) (firstOf s at keywordKinds)
 
 -- the forms that begin with a label, which was read, then the keyword forms
 abbrev pub behindOn : List ℕ → Stand → Label → Lines

@@ -160,7 +160,7 @@ fn count_of(told: Reading) -> usize
 }
 
 // Zeros for the most records.
-fn room() -> [u8; record::ROOM]
+fn zeros() -> [u8; record::ROOM]
     ensures { λ r. ⌜ 50400 ≡ length r ⌝ }
 {
     [0; record::ROOM]
@@ -171,7 +171,7 @@ fn read_into(text: &[u8], records: &mut [u8], whole: bool) -> Reading
     requires { ⌜ length (now text) ≤ longestText ⌝ }
     ensures { λ r. ⌜ Ended whole (now (text .entry)) (now (records .entry)) r (now (records .exit)) ⌝ }
 {
-    let mut own = room();
+    let mut own = zeros();
     let page = read_page(text, &mut own);
     let told = tell(text, page, whole, records.len());
     let n = record::SIZE * count_of(told);

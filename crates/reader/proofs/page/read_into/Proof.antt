@@ -19,22 +19,22 @@ count-of-requires : tie.Need-count-of-requires
 count-of-requires c κs =
     let a = c .before .before .before .before .before .before .before .args in
     let p = c .before .before .read-page in
-    let zeros = c .before .before .before .before .room in
+    let zeros = c .before .before .before .before .zeros in
     few (a .whole) (a .text .now) (a .records .now) (zeros .result) (p .last .1 .0) (p .result .instructions) (p .result .guesses) (p .result .then) (p .ensures) (zeros .ensures) (c .tell .result) (c .tell .ensures)
 
 array-share-prefix-own : tie.Need-array-share-prefix-own
-array-share-prefix-own c = omega (arith, c .before .before .before .before .before .before .room .ensures, c .before .before .before .before .read-page .kept .1 .0)
+array-share-prefix-own c = omega (arith, c .before .before .before .before .before .before .zeros .ensures, c .before .before .before .before .read-page .kept .1 .0)
 
 slice-aggregate-put : tie.Need-slice-aggregate-put
 slice-aggregate-put c =
     let p = c .before .before .before .before .before .read-page in
-    sym (length-take-le (28 * c .before .before .count-of .result) (p .last .1 .0) (omega (arith, c .before .before .before .before .before .before .before .room .ensures, p .kept .1 .0)))
+    sym (length-take-le (28 * c .before .before .count-of .result) (p .last .1 .0) (omega (arith, c .before .before .before .before .before .before .before .zeros .ensures, p .kept .1 .0)))
 
 returns : tie.Need-returns
 returns c =
     let a = c .before .before .before .before .before .before .before .before .before .before .before .before .before .args in
     let p = c .before .before .before .before .before .before .before .before .read-page in
-    let zeros = c .before .before .before .before .before .before .before .before .before .before .room in
+    let zeros = c .before .before .before .before .before .before .before .before .before .before .zeros in
     let tell = c .before .before .before .before .before .before .tell in
     ended (a .whole) (a .text .now) (a .records .now) (zeros .result) (p .last .1 .0) (p .result .instructions) (p .result .guesses) (p .result .then) (p .ensures) (zeros .ensures) (tell .result)
     (c .before .before .put .last .0) (tell .ensures) (rw (← c .before .before .before .before .before .count-of .ensures .0) (c .before .before .put .ensures .buffer))
