@@ -15,6 +15,7 @@ use types.Run.{OneOf}
 use denote.Enum.Declared.{tagOf}
 use Rattle.ground.specs.Words.{bytes}
 use Rattle.ground.proofs.Lists.{and-first, and-second}
+use Rattle.refusal.specs.declared.Refusal.{Refusal}
 use Rattle.text.specs.Text.{orStand, starts, isSpace, runTo, wordAt, wordOn, wsOn, byteOn, labelOn, suffixedOn, dottedOn}
 use Rattle.text.specs.declared.Stand.{Stand}
 use Rattle.text.specs.declared.Stand.the-variants.{At, Nothing, Refused}
@@ -174,3 +175,9 @@ pub line-nowhere : (s : List ℕ) (guess : Bool) → lineOn guess s Nothing ≡ 
 unfolding wsOn guessOn guessedOn pairOn suffixedOn labelOn byteOn wordOn numberOn
 line-nowhere s false = by-declaration s Nothing ∙ sym (forms-nowhere s Nothing (inl refl))
 line-nowhere s true = refl
+
+-- a refusal is handed on by a line
+pub line-refused : (s : List ℕ) (guess : Bool) (why : Refusal) → lineOn guess s (Refused why) .then ≡ Refused why
+unfolding instructionOn guessOn guessedOn declareOn pairOn suffixedOn labelOn byteOn wordOn wsOn numberOn
+line-refused s false why = refl
+line-refused s true why = refl

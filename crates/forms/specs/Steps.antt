@@ -6,7 +6,9 @@ use Prim.Native.Nat.{ℕ, _+_}
 use lib.Dec.{eqb}
 use lib.ListN.{length}
 use Rattle.ground.specs.Words.{bytes}
+use Rattle.text.specs.Text.{refusedAt}
 use Rattle.text.specs.declared.Stand.{Stand}
+use Rattle.text.specs.declared.Stand.the-variants.{At}
 use Rattle.text.specs.declared.Label.{Label}
 use Rattle.record.specs.Kinds.{newPoint, newCircle, newArc, fixComponent, fixCenter, wordOf}
 use Rattle.record.specs.declared.Record.{Record}
@@ -33,6 +35,10 @@ meant l = lineOf (recordsOf l) (l .then)
 pub record Stored (d : List ℕ) (n : ℕ) (rs : List Record) (next : ℕ) (d′ : List ℕ) : Type 0 where
   pub next-is : next ≡ n + length rs
   pub buffer : d′ ≡ stored d n rs
+
+-- where reading stands without a further line, behind so many lines: at the end of the last, or, before the first, refused where that is due
+abbrev pub stopOf : ℕ → ℕ → ℕ → ℕ → Stand
+stopOf first number lines last = cond (eqb lines 0) (refusedAt number first) (At last)
 
 -- ---- choices
 
