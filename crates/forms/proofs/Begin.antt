@@ -16,7 +16,7 @@ use denote.Enum.Declared.{tagOf}
 use Rattle.ground.specs.Words.{bytes}
 use Rattle.ground.proofs.Lists.{and-first, and-second}
 use Rattle.refusal.specs.declared.Refusal.{Refusal}
-use Rattle.text.specs.Text.{orStand, starts, isSpace, runTo, wordAt, wordOn, wsOn, byteOn, labelOn, suffixedOn, dottedOn}
+use Rattle.text.specs.Text.{orStand, starts, isSpace, runTo, wordAt, wordOn, wsOn, byteOn, labelOn, suffixedOn}
 use Rattle.text.specs.declared.Stand.{Stand}
 use Rattle.text.specs.declared.Stand.the-variants.{At, Nothing, Refused}
 use Rattle.text.specs.declared.Label.{Label}
@@ -25,7 +25,7 @@ use Rattle.text.proofs.Laws.{runTo-stop, runTo-end}
 use Rattle.number.specs.Number.{numberOn}
 use Rattle.record.specs.Kinds.{newPoint, newCircle, newArc, fixComponent, fixCenter, wordOf}
 use Rattle.record.specs.declared.Record.{Record}
-use Rattle.forms.specs.Forms.{Lines, noLine, lineOf, labelled, orLine, aroundOn, pairOn, declareOn, fixedOn, assignOn, keywordKinds, firstOf, labelFormsOn, instructionOn, guessedOn, guessOn, lineOn}
+use Rattle.forms.specs.Forms.{Lines, noLine, lineOf, orLine, aroundOn, pairOn, declareOn, fixedOn, assignOn, keywordKinds, firstOf, labelFormsOn, instructionOn, guessedOn, guessOn, lineOn}
 use Rattle.forms.specs.Steps.{assignedOn, behindOn, declarationOn, opens, noneBegins}
 use Rattle.forms.proofs.Kept.{fixed-kept, assign-kept, suffixed-kept, around-kept}
 use Rattle.forms.proofs.Stands.{kept-nothing, unread}

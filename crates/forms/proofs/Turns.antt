@@ -13,7 +13,6 @@ use Rattle.text.specs.declared.Stand.{Stand}
 use Rattle.text.specs.declared.Stand.the-variants.{At, Nothing, Refused}
 use Rattle.text.proofs.Laws.{handed}
 use Rattle.text.proofs.Stand.{the-type}
-use Rattle.forms.specs.declared.Count.{Count}
 use Rattle.forms.specs.declared.pieces.Parsed.{Parsed}
 use Rattle.forms.specs.Forms.{Lines, noLine, lineOn}
 use Rattle.forms.specs.Section.{followedBy, restOf, linesOn, stored, SectionRead}

@@ -7,7 +7,6 @@ use native.Mathlib.Omega.{arith}
 use borrow.Author.Tests.{le-leb, lt-ltb, le-ltb, ltb-false}
 use lib.Dec.{ltb}
 use lib.ListN.{length, take, length-append}
-use Rattle.refusal.specs.declared.Refusal.{Refusal}
 use Rattle.text.specs.declared.Stand.{Stand}
 use Rattle.text.specs.declared.Stand.the-variants.{At, Nothing, Refused}
 use Rattle.store.specs.Store.{room, written}
@@ -19,7 +18,7 @@ use Rattle.reader.specs.declared.Reading.the-variants as reading
 use Rattle.forms.specs.Section.{stored}
 use Rattle.forms.proofs.Storing.{stored-all}
 use Rattle.forms.proofs.SoundSection.{lines-due}
-use Rattle.reader.specs.Page.{highAt, refused, toldOf, endedOf, pageOf, problemOf, readingOf, recordsIn, writtenBy, bufferAfter, Reads}
+use Rattle.reader.specs.Page.{highAt, refused, endedOf, problemOf, readingOf, recordsIn, writtenBy, bufferAfter, Reads}
 use Rattle.reader.specs.Steps.{Paged, toldRecords, Ended}
 
 -- ---- how many records a page can have

@@ -10,8 +10,7 @@ use lib.ListN.{length, getD, take, drop, length-append, length-map, List·getD-m
 use lib.Seq.{take-at, ext-getD}
 use borrow.Author.Tests.{ltb-false, leb-true, leb-false, lt-ltb}
 use Rattle.refusal.specs.First.{Nowhere}
-use Rattle.text.specs.declared.Stand.{Stand}
-use Rattle.text.specs.declared.Stand.the-variants.{At, Nothing, Refused}
+use Rattle.text.specs.declared.Stand.the-variants.{At}
 use Rattle.record.specs.Record.{recordBytes, mostRecords, longestText, firstGuess, encodeAll}
 use Rattle.record.specs.Decode.{decode, countOf, recordOf, decodeAt, noRecord}
 use Rattle.record.specs.Entry.{noEntry, entryOf}

@@ -1,6 +1,5 @@
 -- `reader::page::count_of` meets its contract: it goes by whether the answer is good. Assumes nothing.
 use borrow.Author.Needs.{needs}
-use mathlib.Core.Path.{refl}
 use native.Mathlib.Omega.{arith}
 use Rattle.reader.proofs.page.count_of.Statement.{statement}
 use Rattle.reader.proofs.page.count_of.Tie as tie
