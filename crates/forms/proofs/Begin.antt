@@ -15,7 +15,8 @@ use types.Run.{OneOf}
 use denote.Enum.Declared.{tagOf}
 use Rattle.ground.specs.Words.{bytes}
 use Rattle.ground.proofs.Lists.{and-first, and-second}
-use Rattle.text.specs.Text.{orStand, starts, isSpace, runTo, wordAt, wordOn, wsOn, byteOn, labelOn, suffixedOn, dottedOn}
+use Rattle.refusal.specs.declared.Refusal.{Refusal}
+use Rattle.text.specs.Text.{orStand, starts, isSpace, runTo, wordAt, wordOn, wsOn, byteOn, labelOn, suffixedOn}
 use Rattle.text.specs.declared.Stand.{Stand}
 use Rattle.text.specs.declared.Stand.the-variants.{At, Nothing, Refused}
 use Rattle.text.specs.declared.Label.{Label}
@@ -24,7 +25,7 @@ use Rattle.text.proofs.Laws.{runTo-stop, runTo-end}
 use Rattle.number.specs.Number.{numberOn}
 use Rattle.record.specs.Kinds.{newPoint, newCircle, newArc, fixComponent, fixCenter, wordOf}
 use Rattle.record.specs.declared.Record.{Record}
-use Rattle.forms.specs.Forms.{Lines, noLine, lineOf, labelled, orLine, aroundOn, pairOn, declareOn, fixedOn, assignOn, order, firstOf, labelFormsOn, instructionOn, guessedOn, guessOn, lineOn}
+use Rattle.forms.specs.Forms.{Lines, noLine, lineOf, orLine, aroundOn, pairOn, declareOn, fixedOn, assignOn, keywordKinds, firstOf, labelFormsOn, instructionOn, guessedOn, guessOn, lineOn}
 use Rattle.forms.specs.Steps.{assignedOn, behindOn, declarationOn, opens, noneBegins}
 use Rattle.forms.proofs.Kept.{fixed-kept, assign-kept, suffixed-kept, around-kept}
 use Rattle.forms.proofs.Stands.{kept-nothing, unread}
@@ -94,8 +95,8 @@ skip s at (suc i) (k ∷ ks) e =
     rw (no-keyword s (At at) k (word-not (wordOf k) s at (not-true _ (and-first (not (opens (getD s at 0) (wordOf k))) _ e))))
     (skip s at i ks (and-second (not (opens (getD s at 0) (wordOf k))) _ e))
 
-pub skipped : (s : List ℕ) (at i : ℕ) → noneBegins (getD s at 0) (take i order) ≡ true → firstOf s (At at) order ≡ firstOf s (At at) (drop i order)
-skipped s at i e = skip s at i order e
+pub skipped : (s : List ℕ) (at i : ℕ) → noneBegins (getD s at 0) (take i keywordKinds) ≡ true → firstOf s (At at) keywordKinds ≡ firstOf s (At at) (drop i keywordKinds)
+skipped s at i e = skip s at i keywordKinds e
 
 -- ---- what stands behind a label
 
@@ -130,7 +131,7 @@ module _ (s : List ℕ) (at : ℕ) (l : Label) (next b : ℕ) (e : l .then ≡ A
   no-point = rw (fixed-not fixComponent (bytes ".") o, fixed-not fixCenter (bytes ".center.") o)
 
   -- neither a point nor a space nor `=`
-  pub no-label-form : isSpace b ≡ false → eqb b 61 ≡ false → firstOf s (At at) order ≡ behindOn s (At at) l
+  pub no-label-form : isSpace b ≡ false → eqb b 61 ≡ false → firstOf s (At at) keywordKinds ≡ behindOn s (At at) l
   no-label-form f g =
       let bare : suffixedOn s l ≡ l = unsuffixed s l (rw e (byte-not s next 46 (rw d o))) in
       rw (← no-point, not-assigned s l (rw (bare, e) (around-by s next 61 (no-space s next (rw d f)) (byte-not s next 61 (rw d g)))))
@@ -161,7 +162,7 @@ labels-nowhere s =
       not-fixed s l fixCenter (bytes ".center.") (stays (bytes ".center.")),
       not-assigned s l (around-kept (kept-nothing s) 61 (suffixed-kept (kept-nothing s) l refl)),
     )
-    (first-nowhere s order)
+    (first-nowhere s keywordKinds)
 
 -- a declaration hands on a stand that is no place, and the other forms read nothing where nothing was read
 pub forms-nowhere : (s : List ℕ) (t : Stand) → OneOf (1 ∷ 2 ∷ []) (tagOf the-type t) → noLine t ≡ orLine (declarationOn s t) (labelFormsOn s t)
@@ -174,3 +175,9 @@ pub line-nowhere : (s : List ℕ) (guess : Bool) → lineOn guess s Nothing ≡ 
 unfolding wsOn guessOn guessedOn pairOn suffixedOn labelOn byteOn wordOn numberOn
 line-nowhere s false = by-declaration s Nothing ∙ sym (forms-nowhere s Nothing (inl refl))
 line-nowhere s true = refl
+
+-- a refusal is handed on by a line
+pub line-refused : (s : List ℕ) (guess : Bool) (why : Refusal) → lineOn guess s (Refused why) .then ≡ Refused why
+unfolding instructionOn guessOn guessedOn declareOn pairOn suffixedOn labelOn byteOn wordOn wsOn numberOn
+line-refused s false why = refl
+line-refused s true why = refl

@@ -12,7 +12,7 @@ use Rattle.number.specs.Number.{numberOn, exprOn}
 use Rattle.record.specs.Kinds.{newPoint, newCircle, newArc, fixComponent, fixCenter, kindAt, wordOf, none, number, expression}
 use Rattle.forms.specs.declared.pieces.Amount.{Amount}
 use Rattle.forms.specs.declared.pieces.Side.{Side}
-use Rattle.forms.specs.Forms.{Lines, orLine, aroundOn, eitherOn, pairOn, declareOn, fixedOn, assignOn, moreOn, angleOn, plainAmount, amountOn, gapOn, keywordOn, order, firstOf, labelFormsOn, instructionOn, guessedOn, guessOn, lineOn}
+use Rattle.forms.specs.Forms.{Lines, orLine, aroundOn, eitherOn, pairOn, declareOn, fixedOn, assignOn, moreOn, angleOn, plainAmount, amountOn, gapOn, keywordOn, keywordKinds, firstOf, labelFormsOn, instructionOn, guessedOn, guessOn, lineOn}
 
 -- each reader keeps P, and P holds where nothing was read
 pub record Kept (s : List ℕ) (P : Stand → Type 0) : Type 0 where
@@ -121,9 +121,9 @@ module _ {s : List ℕ} {P : Stand → Type 0} (k : Kept s P) where
   label-forms-kept {t} h =
       let l = labelOn s t in
       let f = k .label h in
-      or-kept (fixedOn s l fixComponent (bytes ".")) (orLine (fixedOn s l fixCenter (bytes ".center.")) (orLine (assignOn s l) (firstOf s t order))) (fixed-kept l fixComponent (bytes ".") (k .word (bytes ".") f))
-      (or-kept (fixedOn s l fixCenter (bytes ".center.")) (orLine (assignOn s l) (firstOf s t order)) (fixed-kept l fixCenter (bytes ".center.") (k .word (bytes ".center.") f))
-      (or-kept (assignOn s l) (firstOf s t order) (assign-kept l (around-kept 61 (suffixed-kept l f))) (first-kept order h)))
+      or-kept (fixedOn s l fixComponent (bytes ".")) (orLine (fixedOn s l fixCenter (bytes ".center.")) (orLine (assignOn s l) (firstOf s t keywordKinds))) (fixed-kept l fixComponent (bytes ".") (k .word (bytes ".") f))
+      (or-kept (fixedOn s l fixCenter (bytes ".center.")) (orLine (assignOn s l) (firstOf s t keywordKinds)) (fixed-kept l fixCenter (bytes ".center.") (k .word (bytes ".center.") f))
+      (or-kept (assignOn s l) (firstOf s t keywordKinds) (assign-kept l (around-kept 61 (suffixed-kept l f))) (first-kept keywordKinds h)))
 
   instruction-kept : {t : Stand} → P t → P (instructionOn s t .then)
   unfolding instructionOn

@@ -3,7 +3,7 @@
 use mathlib.Core.Path.{_≡_, refl, _∙_}
 use mathlib.Core.Bool.{Bool, true, false, not, cond, _&&_}
 use mathlib.Core.List.{List, [], _∷_}
-use Prim.Native.Nat.{ℕ, zero, suc, _+_, _^_, _≤_, _<_}
+use Prim.Native.Nat.{ℕ, _+_, _^_, _≤_, _<_}
 use native.Mathlib.Omega.{arith}
 use lib.Dec.{leb, eqb, ltb, lit<}
 use lib.ListN.{length}
@@ -28,7 +28,7 @@ use Rattle.record.proofs.UpTo.{length-up-to, getD-up-to, each-place}
 use Rattle.record.proofs.Agree.{says-known}
 use Rattle.forms.specs.declared.pieces.Amount.{Amount}
 use Rattle.forms.specs.declared.pieces.Side.{Side}
-use Rattle.forms.specs.Forms.{Lines, lineOf, orLine, viewFrom, labelled, aroundOn, eitherOn, componentOn, pairOn, declareOn, fixedOn, assignOn, moreOn, angleOn, amountOn, gapOn, keywordOn, order, firstOf, labelFormsOn, instructionOn, guessedOn, guessOn, lineOn}
+use Rattle.forms.specs.Forms.{Lines, lineOf, orLine, viewFrom, labelled, aroundOn, eitherOn, componentOn, pairOn, declareOn, fixedOn, assignOn, moreOn, angleOn, amountOn, gapOn, keywordOn, keywordKinds, firstOf, labelFormsOn, instructionOn, guessedOn, guessOn, lineOn}
 use Rattle.forms.proofs.Kept.{side, picked, either-of, side-kept, pair-kept, suffixed-kept, around-kept, more-kept, gap-kept, amount-kept}
 use Rattle.forms.proofs.Stands.{Reached, here, Behind, same, kept-behind}
 use Rattle.forms.proofs.Found.{Found, dotted, label-found, suffixed-found, More, more-found}
@@ -191,7 +191,7 @@ row k =
     && (not (kindAt k .dotted)
     && eqb (kindAt k .thirds) (thirdsOf (kindAt k .number)))))
 
-all-rows : all row order ≡ true
+all-rows : all row keywordKinds ≡ true
 all-rows = refl
 
 row-proper : (s : List ℕ) (r : Record) → row (r .kind) ≡ true → r .count ≡ kindAt (r .kind) .labels → length (r .labels) ≡ labelPlaces → EachBelow labelPlaces (Slot s false r)
@@ -286,7 +286,7 @@ module _ (s : List ℕ) where
       (fixed-lined l fixComponent (bytes ".") refl (says-known fixComponent .so refl) refl refl refl (λ h. dotted s l (label-found s t h)))
       (or-lined s false (fixedOn s l fixCenter (bytes ".center.")) _
       (fixed-lined l fixCenter (bytes ".center.") refl (says-known fixCenter .so refl) refl refl refl (label-found s t))
-      (or-lined s false (assignOn s l) (firstOf s t order) (assign-lined l (label-found s t)) (first-lined order t all-rows)))
+      (or-lined s false (assignOn s l) (firstOf s t keywordKinds) (assign-lined l (label-found s t)) (first-lined keywordKinds t all-rows)))
 
   instruction-lined : (t : Stand) → Lined s false (instructionOn s t)
   unfolding instructionOn

@@ -1,6 +1,5 @@
 -- Each record of a section is sound over the text, a line has two at most, and a section that is read to a place has one: by its lines, one
 -- behind another. Assumes nothing.
-use mathlib.Core.Path.{_≡_, refl}
 use mathlib.Core.Bool.{Bool}
 use mathlib.Core.List.{List, [], _∷_, _++_}
 use Prim.Native.Nat.{ℕ, zero, suc, _+_, _*_, _≤_, _<_}

@@ -11,7 +11,7 @@ use borrow.Author.Tests.{leb-true}
 use Rattle.ground.proofs.Lists.{getD-inside, all-at}
 use Rattle.record.specs.declared.kinds.Word.{Word}
 use Rattle.record.specs.Kinds.{wordOf, inField}
-use Rattle.forms.specs.Forms.{order}
+use Rattle.forms.specs.Forms.{keywordKinds}
 
 -- a word is no longer than its field, and its field begins with it
 module _ (w : List ℕ) (field : Word) (e : field ≡ inField w) where
@@ -25,6 +25,6 @@ module _ (w : List ℕ) (field : Word) (e : field ≡ inField w) where
 long : ℕ → Bool
 long k = leb 2 (length (wordOf k))
 
-pub keyword-long : (i : ℕ) → i < length order → 2 ≤ length (wordOf (getD order i 0))
+pub keyword-long : (i : ℕ) → i < length keywordKinds → 2 ≤ length (wordOf (getD keywordKinds i 0))
 unfolding long
-keyword-long i h = rw (getD-inside order i 0 1 h) (leb-true 2 (length (wordOf (getD order i 1))) (all-at long order 1 refl refl i))
+keyword-long i h = rw (getD-inside keywordKinds i 0 1 h) (leb-true 2 (length (wordOf (getD keywordKinds i 1))) (all-at long keywordKinds 1 refl refl i))

@@ -1,22 +1,23 @@
 -- The loop over the lines of a section: what is left to read, behind what has been stored. Assumes nothing.
 use mathlib.Core.Path.{_≡_, refl, sym, _∙_}
-use mathlib.Core.Bool.{Bool, true, false}
+use mathlib.Core.Logic.{⊎-elim}
+use mathlib.Core.Bool.{Bool, true, false, cond}
 use mathlib.Core.List.{List, [], _∷_}
 use Prim.Native.Nat.{ℕ, zero, suc, _+_, _-_, _*_, _≤_, _<_}
 use native.Mathlib.Omega.{arith}
-use lib.ListN.{length, length-append}
+use lib.ListN.{length, drop, length-append}
 use types.Run.{OneOf}
 use denote.Enum.Declared.{tagOf}
-use Rattle.text.specs.Text.{from, orStand, missed, newlineOn}
+use Rattle.text.specs.Text.{from, orStand, refusedAt, missed, starts, wordAt, byteOn, newlineOn}
 use Rattle.text.specs.declared.Stand.{Stand}
 use Rattle.text.specs.declared.Stand.the-variants.{At, Nothing, Refused}
 use Rattle.text.proofs.Laws.{handed}
 use Rattle.text.proofs.Stand.{the-type}
-use Rattle.forms.specs.declared.Count.{Count}
 use Rattle.forms.specs.declared.pieces.Parsed.{Parsed}
 use Rattle.forms.specs.Forms.{Lines, noLine, lineOn}
 use Rattle.forms.specs.Section.{followedBy, restOf, linesOn, stored, SectionRead}
 use Rattle.forms.specs.Steps.{recordsOf, meant}
+use Rattle.forms.proofs.Begin.{line-nowhere, line-refused}
 use Rattle.forms.proofs.Storing.{stored-length, stored-append}
 
 -- a line that was read has one record or two
@@ -57,6 +58,23 @@ lines-left g s stand number = go (lineOn g s stand .then) (λ next. followedBy (
     go Nothing read = missed-none stand number read
     go (Refused why) read = refl
 
+-- where the first line is due at no place, there are no lines
+lines-nowhere : (g : Bool) (s : List ℕ) (t : Stand) (number : ℕ) → OneOf (1 ∷ 2 ∷ []) (tagOf the-type t) → linesOn g s t number ≡ noLine t
+unfolding linesOn
+lines-nowhere g s (At n) number h = absurd (⊎-elim (λ (e : 0 ≡ 1). omega arith) (λ (e : 0 ≡ 2). omega arith) h)
+lines-nowhere g s Nothing number h = rw (line-nowhere s g)
+lines-nowhere g s (Refused why) number h = rw (line-refused s g why)
+
+-- where no new line stands behind a line, none is left
+none-left : (most : ℕ) (g : Bool) (s : List ℕ) (at : ℕ) → OneOf (1 ∷ 2 ∷ []) (tagOf the-type (newlineOn s (At at))) → leftOf most g s (newlineOn s (At at)) (At at) ≡ noLine (At at)
+unfolding leftOf byteOn wordAt
+none-left most g s at = go (starts (10 ∷ []) (drop at s)) most
+  where
+    go : (t : Bool) (m : ℕ) → OneOf (1 ∷ 2 ∷ []) (tagOf the-type (cond t (At (at + 1)) Nothing)) → leftOf m g s (cond t (At (at + 1)) Nothing) (At at) ≡ noLine (At at)
+    go true m h = absurd (⊎-elim (λ (e : 0 ≡ 1). omega arith) (λ (e : 0 ≡ 2). omega arith) h)
+    go false zero h = refl
+    go false (suc m) h = rw (line-nowhere s g)
+
 -- ---- what holds at the loop's head: k lines were read, n is the next place, the next line is due at a stand, and reading stands at the other without it
 
 pub record Left (g : Bool) (s d₀ : List ℕ) (start : ℕ) (all : Lines) (d : List ℕ) (n : ℕ) (stand other : Stand) (k : ℕ) : Type 0 where
@@ -67,19 +85,24 @@ pub record Left (g : Bool) (s d₀ : List ℕ) (start : ℕ) (all : Lines) (d : 
   pub few : n ≤ start + 2 * k
 
 module _ (g : Bool) (s d₀ : List ℕ) (start : ℕ) where
-  pub first : (stand : Stand) (number : ℕ) → Left g s d₀ start (linesOn g s stand number) d₀ start stand (missed stand number) 0
-  first stand number =
+  pub nowhere : (t : Stand) (number : ℕ) → OneOf (1 ∷ 2 ∷ []) (tagOf the-type t) → SectionRead d₀ start (linesOn g s t number) (record { count = start; then = t }) d₀
+  unfolding stored
+  nowhere t number h = rw (lines-nowhere g s t number h) (record { count-is = omega arith; then-is = refl; buffer = refl })
+
+  pub first : (at number : ℕ) → Left g s d₀ start (linesOn g s (At at) number) d₀ start (At at) (refusedAt number at) 0
+  first at number =
       let e : suc (length s) - 0 ≡ suc (length s) = omega arith in
-      let all = lines-left g s stand number in
+      let all = lines-left g s (At at) number in
       record { buffer = rw (e, all); count = rw (e, all); then = rw (e, all); size = refl; few = omega arith }
 
-  module _ (all : Lines) (d : List ℕ) (n : ℕ) (stand other : Stand) (k : ℕ) (l : Left g s d₀ start all d n stand other k) where
-    -- the loop ends where nothing more is left
-    ended : (then : Stand) → leftOf (suc (length s) - k) g s stand other ≡ noLine then → SectionRead d₀ start all (record { count = n; then = then }) d
-    unfolding stored
-    ended then e =
-        record { count-is = omega (arith, rw e at (l .count)); then-is = sym (rw e at (l .then)); buffer = sym (rw e at (l .buffer)) }
+  -- the loop ends where nothing more is left
+  ended : (all : Lines) (d : List ℕ) (n : ℕ) (stand other : Stand) (k : ℕ) → Left g s d₀ start all d n stand other k → (then : Stand)
+      → leftOf (suc (length s) - k) g s stand other ≡ noLine then → SectionRead d₀ start all (record { count = n; then = then }) d
+  unfolding stored
+  ended all d n stand other k l then e =
+      record { count-is = omega (arith, rw e at (l .count)); then-is = sym (rw e at (l .then)); buffer = sym (rw e at (l .buffer)) }
 
+  module _ (all : Lines) (d : List ℕ) (n : ℕ) (stand other : Stand) (k : ℕ) (l : Left g s d₀ start all d n stand other k) where
     module _ (line : Parsed) (line-is : meant line ≡ lineOn g s stand) (h : k ≤ length s) where
       line-left : leftOf (suc (length s) - k) g s stand other
           ≡ from (line .then) (noLine (orStand (line .then) (line .then) other)) (λ next. followedBy (meant line .records) (restOf (length s - k) g s next))
@@ -100,11 +123,16 @@ module _ (g : Bool) (s d₀ : List ℕ) (start : ℕ) where
             few = omega (arith, few-records line);
           }
 
+      -- no new line stands behind it
+      pub last : (next : ℕ) → line .then ≡ At next → OneOf (1 ∷ 2 ∷ []) (tagOf the-type (newlineOn s (At next)))
+          → SectionRead d₀ start all (record { count = n + length (recordsOf line); then = At next }) (stored d n (recordsOf line))
+      last next e o = ended all (stored d n (recordsOf line)) (n + length (recordsOf line)) (newlineOn s (At next)) (At next) (k + 1) (turn next e) (At next) (none-left (suc (length s) - (k + 1)) g s next o)
+
       pub halt : OneOf (1 ∷ 2 ∷ []) (tagOf the-type (line .then)) → SectionRead d₀ start all (record { count = n; then = orStand (line .then) (line .then) other }) d
-      halt o = ended (orStand (line .then) (line .then) other) (rw line-left (sym (handed (line .then) _ _ o)))
+      halt o = ended all d n stand other k l (orStand (line .then) (line .then) other) (rw line-left (sym (handed (line .then) _ _ o)))
 
     pub over : length s < k → SectionRead d₀ start all (record { count = n; then = other }) d
     unfolding leftOf
     over h =
-        let none-left : suc (length s) - k ≡ 0 = omega arith in
-        ended other (rw none-left)
+        let over : suc (length s) - k ≡ 0 = omega arith in
+        ended all d n stand other k l other (rw over)

@@ -146,8 +146,8 @@ keywordOn s stand kind =
     (byteOn s (gapOn s (n .then) (k .gap)) 41)
 
 -- the keyword forms in the order of parser.rs
-abbrev pub order : List ℕ
-order = 6 ∷ 11 ∷ 12 ∷ 13 ∷ 14 ∷ 5 ∷ 7 ∷ 8 ∷ 9 ∷ 10 ∷ 15 ∷ 16 ∷ 17 ∷ 23 ∷ 20 ∷ 21 ∷ 22 ∷ 19 ∷ []
+abbrev pub keywordKinds : List ℕ
+keywordKinds = 6 ∷ 11 ∷ 12 ∷ 13 ∷ 14 ∷ 5 ∷ 7 ∷ 8 ∷ 9 ∷ 10 ∷ 15 ∷ 16 ∷ 17 ∷ 23 ∷ 20 ∷ 21 ∷ 22 ∷ 19 ∷ []
 
 -- the first of these kinds whose form reads
 unfoldable pub firstOf : List ℕ → Stand → List ℕ → Lines
@@ -163,7 +163,7 @@ labelFormsOn s stand =
     orLine (fixedOn s l fixComponent (bytes "."))
     (orLine (fixedOn s l fixCenter (bytes ".center."))
     (orLine (assignOn s l)
-    (firstOf s stand order)))
+    (firstOf s stand keywordKinds)))
 
 -- `parse_instruction`: spaces, then the first of these that reads
 unfoldable pub instructionOn : List ℕ → Stand → Lines

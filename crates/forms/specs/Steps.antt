@@ -6,13 +6,15 @@ use Prim.Native.Nat.{ℕ, _+_}
 use lib.Dec.{eqb}
 use lib.ListN.{length}
 use Rattle.ground.specs.Words.{bytes}
+use Rattle.text.specs.Text.{refusedAt}
 use Rattle.text.specs.declared.Stand.{Stand}
+use Rattle.text.specs.declared.Stand.the-variants.{At}
 use Rattle.text.specs.declared.Label.{Label}
 use Rattle.record.specs.Kinds.{newPoint, newCircle, newArc, fixComponent, fixCenter, wordOf}
 use Rattle.record.specs.declared.Record.{Record}
 use Rattle.forms.specs.declared.pieces.Parsed.{Parsed}
 use Rattle.forms.specs.declared.declarations.Declared.{Declared}
-use Rattle.forms.specs.Forms.{Lines, lineOf, orLine, labelled, declareOn, fixedOn, assignOn, order, firstOf}
+use Rattle.forms.specs.Forms.{Lines, lineOf, orLine, labelled, declareOn, fixedOn, assignOn, keywordKinds, firstOf}
 use Rattle.forms.specs.Section.{stored}
 
 -- ---- a line as the code hands it about
@@ -34,6 +36,10 @@ pub record Stored (d : List ℕ) (n : ℕ) (rs : List Record) (next : ℕ) (d′
   pub next-is : next ≡ n + length rs
   pub buffer : d′ ≡ stored d n rs
 
+-- where reading stands without a further line, behind so many lines: at the end of the last, or, before the first, refused where that is due
+abbrev pub stopOf : ℕ → ℕ → ℕ → ℕ → Stand
+stopOf first number lines last = cond (eqb lines 0) (refusedAt number first) (At last)
+
 -- ---- choices
 
 -- the declarations
@@ -46,7 +52,7 @@ declared d = lineOf (labelled (d .kind) 0 (d .label) 0 0 ∷ []) (d .label .then
 
 -- an assignment, then the keyword forms
 abbrev pub assignedOn : List ℕ → Stand → Label → Lines
-assignedOn s at l = orLine (assignOn s l) (firstOf s at order)
+assignedOn s at l = orLine (assignOn s l) (firstOf s at keywordKinds)
 
 -- the forms that begin with a label, which was read, then the keyword forms
 abbrev pub behindOn : List ℕ → Stand → Label → Lines

@@ -6,7 +6,7 @@ ghost use lib.ListN.{length, take};
 ghost use Rattle.text.specs.Text.{wordOn};
 ghost use Rattle.text.specs.declared.Stand.the-variants.{At, Nothing};
 ghost use Rattle.record.specs.Kinds.{table, wordOf};
-ghost use Rattle.forms.specs.Forms.{keywordOn, order, firstOf};
+ghost use Rattle.forms.specs.Forms.{keywordOn, keywordKinds, firstOf};
 ghost use Rattle.forms.specs.Steps.{meant, noneBegins};
 use crate::pieces;
 use crate::pieces::Parsed;
@@ -16,25 +16,25 @@ use record::kinds::Word;
 use text::Stand;
 
 // The keyword forms in the Rust's order.
-const ORDER: [u8; 18] = [
-    6,
-    11,
-    12,
-    13,
-    14,
-    5,
-    7,
-    8,
-    9,
-    10,
-    15,
-    16,
-    17,
-    23,
-    20,
-    21,
-    22,
-    19,
+const KEYWORD_KINDS: [u8; 18] = [
+    6, // horizontal
+    11, // coincident
+    12, // point_arc_coincident
+    13, // midpoint
+    14, // symmetric
+    5, // vertical
+    7, // distance
+    8, // parallel
+    9, // perpendicular
+    10, // lines_at_angle
+    15, // radius
+    16, // tangent
+    17, // arc_radius
+    23, // arc_length
+    20, // is_arc
+    21, // point_line_distance
+    22, // line
+    19, // lines_equal_length
 ];
 
 // Whether a kind's word may stand there, by its first two bytes.
@@ -117,7 +117,7 @@ fn try_keyword(text: &[u8], stand: Stand, kind: u8, kinds: &[[u8; 8]; 26]) -> Pa
 
 // A place of the order before which no keyword begins with this byte.
 fn skip_to(b: u8) -> usize
-    ensures { λ r. ⌜ noneBegins b (take r order) ≡ true ⌝ }
+    ensures { λ r. ⌜ noneBegins b (take r keywordKinds) ≡ true ⌝ }
 {
     match b {
         b'c' => 1,
@@ -138,9 +138,9 @@ fn skip_to(b: u8) -> usize
 // The first keyword form that reads at a place.
 pub(crate) fn keyword_forms(text: &[u8], at: usize, kinds: &[[u8; 8]; 26]) -> Parsed
     requires { ⌜ now kinds ≡ table ⌝ }
-    ensures { λ r. ⌜ meant r ≡ firstOf (now (text .entry)) (At at) order ⌝ }
+    ensures { λ r. ⌜ meant r ≡ firstOf (now (text .entry)) (At at) keywordKinds ⌝ }
 {
-    let order = ORDER;
+    let order = KEYWORD_KINDS;
     let mut i = skip_to(text::byte_at(text, at));
     while i < 18 {
         let line = try_keyword(text, Stand::At(at), order[i], kinds);

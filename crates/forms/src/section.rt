@@ -5,11 +5,12 @@ ghost use lib.ListN.{length};
 ghost use Rattle.record.specs.Record.{longestText};
 ghost use Rattle.record.specs.Kinds.{table};
 ghost use Rattle.forms.specs.Section.{linesOn, store, SectionRead};
-ghost use Rattle.forms.specs.Steps.{recordsOf, Stored};
+ghost use Rattle.forms.specs.Steps.{recordsOf, Stored, stopOf};
 use crate::Count;
 use crate::lines;
 use crate::pieces::Parsed;
 use record::Record;
+use refusal::Refusal;
 use text::Stand;
 
 // Puts a record at its place, where there is room.
@@ -36,6 +37,19 @@ fn put_line(own: &mut [u8], n: usize, line: Parsed) -> usize
     n + 1
 }
 
+// Where reading stands without a further line: at the end of the last one, or, before the first one, refused where that is due.
+fn stop(first: usize, number: u8, lines: usize, last: usize) -> Stand
+    ensures { λ r. ⌜ r ≡ stopOf first number lines last ⌝ }
+{
+    if lines == 0 {
+        return Stand::Refused(Refusal {
+            number,
+            place: first,
+        });
+    }
+    Stand::At(last)
+}
+
 // A line, which is due, and those that follow it, each behind one new line. Where none reads, reading stands at the last line's end.
 pub(crate) fn section(
     text: &[u8],
@@ -49,26 +63,36 @@ pub(crate) fn section(
     requires { ⌜ (now kinds ≡ table) × (length (now text) ≤ longestText) × (start ≤ 4294967295) ⌝ }
     ensures { λ r. ⌜ SectionRead (now (own .entry)) start (linesOn guesses (now (text .entry)) stand number) r (now (own .exit)) ⌝ }
 {
-    let mut next = stand;
-    let mut other = text::missing(stand, number);
+    let Stand::At(first) = stand else {
+        return Count {
+            count: start,
+            then: stand,
+        };
+    };
+    let mut at = first;
+    let mut last = first;
     let mut n = start;
     let mut k = 0;
     while k <= text.len() {
-        let line = lines::line_at(text, next, guesses, kinds);
+        let line = lines::line_at(text, Stand::At(at), guesses, kinds);
         let then = line.then;
-        let Stand::At(_) = then else {
+        let Stand::At(end) = then else {
             return Count {
                 count: n,
-                then: text::or_stand(then, other),
+                then: text::or_stand(then, stop(first, number, k, last)),
             };
         };
         n = put_line(own, n, line);
-        next = text::newline(text, then);
-        other = then;
+        let next = text::newline(text, then);
+        let Stand::At(after) = next else {
+            return Count { count: n, then };
+        };
+        at = after;
+        last = end;
         k += 1;
     }
     Count {
         count: n,
-        then: other,
+        then: stop(first, number, k, last),
     }
 }

@@ -10,7 +10,7 @@ use Rattle.decimal.specs.Decimal.{limit, power, carried}
 use Rattle.decimal.specs.declared.Scale.{Scale}
 use Rattle.decimal.specs.declared.Carried.the-variants.{Outside}
 use Rattle.decimal.proofs.Laws.{outside-big, outside-times, outside-over}
-use Rattle.number.specs.Number.{capped, longest, scaleOf, carriedBy, scaled, cappedExponent, valued}
+use Rattle.number.specs.Number.{capped, exponentCap, scaleOf, carriedBy, scaled, cappedExponent, valued}
 use Rattle.number.specs.declared.Exponent.{Exponent}
 use Rattle.number.specs.declared.Exponent.the-variants.{Power, Missing}
 
@@ -34,16 +34,16 @@ below-outside m s size count h = outside-over m (size + count) s (omega arith)
 above-outside : (m : ℕ) (s : Bool) (size count : ℕ) → power + count < size → carriedBy m s false size count ≡ Outside
 above-outside m s size count h = rw (le-leb count size (omega arith)) (outside-times m (size - count) s (omega arith))
 
-long-outside : (m : ℕ) (s below : Bool) (size count : ℕ) → count < 2 ^ 63 → longest ≤ size → carriedBy m s below size count ≡ Outside
+long-outside : (m : ℕ) (s below : Bool) (size count : ℕ) → count < 2 ^ 63 → exponentCap ≤ size → carriedBy m s below size count ≡ Outside
 long-outside m s true size count c h = below-outside m s size count (omega arith)
 long-outside m s false size count c h = above-outside m s size count (omega arith)
 
-exponent-capped : (m : ℕ) (s below : Bool) (size count : ℕ) → count < 2 ^ 63 → carriedBy m s below (capped longest size) count ≡ carriedBy m s below size count
-exponent-capped m s below size count c = elim (decLe size longest) [
-  | yes h ↦ (let e : capped longest size ≡ size = omega arith in rw e)
-  | no f ↦ (let e : capped longest size ≡ longest = omega arith in
-      let l : longest ≤ size = le-of-lt (lt-of-not-le f) in
-      rw e (long-outside m s below longest count c (omega arith) ∙ sym (long-outside m s below size count c l)))
+exponent-capped : (m : ℕ) (s below : Bool) (size count : ℕ) → count < 2 ^ 63 → carriedBy m s below (capped exponentCap size) count ≡ carriedBy m s below size count
+exponent-capped m s below size count c = elim (decLe size exponentCap) [
+  | yes h ↦ (let e : capped exponentCap size ≡ size = omega arith in rw e)
+  | no f ↦ (let e : capped exponentCap size ≡ exponentCap = omega arith in
+      let l : exponentCap ≤ size = le-of-lt (lt-of-not-le f) in
+      rw e (long-outside m s below exponentCap count c (omega arith) ∙ sym (long-outside m s below size count c l)))
 ]
 
 -- ---- both
@@ -51,5 +51,5 @@ exponent-capped m s below size count c = elim (decLe size longest) [
 pub scaled-capped : (at : ℕ) (s : Bool) (m count : ℕ) (e : Exponent) → count < 2 ^ 63
     → scaled at s (capped limit m) count (cappedExponent e) ≡ scaled at s m count e
 scaled-capped at s m count (Power below size next) c =
-    ap (valued at next) (carried-capped m (scaleOf below (capped longest size) count) s ∙ exponent-capped m s below size count c)
+    ap (valued at next) (carried-capped m (scaleOf below (capped exponentCap size) count) s ∙ exponent-capped m s below size count c)
 scaled-capped at s m count Missing c = refl

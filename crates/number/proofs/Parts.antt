@@ -12,7 +12,7 @@ use Rattle.text.specs.Text.{refusedAt}
 use Rattle.text.specs.declared.Stand.the-variants.{Nothing}
 use Rattle.text.proofs.Laws.{runTo-ahead}
 use Rattle.text.proofs.Within.{runTo-span}
-use Rattle.number.specs.Number.{isDigit, isSign, isMinus, isPoint, isExponent, isWord, after, partAt, endAt, joined, noDigit, digitsAt, numeral, longest, Run, Joined, exponentAt, cappedExponent, scaled, noNumber, numberAt}
+use Rattle.number.specs.Number.{isDigit, isSign, isMinus, isPoint, isExponent, isWord, after, partAt, endAt, joined, noDigit, digitsAt, numeral, exponentCap, Run, Joined, exponentAt, cappedExponent, scaled, noNumber, numberAt}
 use Rattle.number.specs.declared.Exponent.the-variants.{Power, Missing}
 use Rattle.number.proofs.Numerals.{numeral-append, capped-numeral}
 use Rattle.number.proofs.Limits.{scaled-capped}
@@ -24,7 +24,7 @@ module _ (s : List ℕ) (at : ℕ) where
   unfolding exponentAt
   no-exponent e = rw e
 
-  module _ (first size next : ℕ) (e : isExponent (getD s at 0) ≡ true) (first-is : first ≡ after isSign s (at + 1)) (run : Run s first 0 longest size next) where
+  module _ (first size next : ℕ) (e : isExponent (getD s at 0) ≡ true) (first-is : first ≡ after isSign s (at + 1)) (run : Run s first 0 exponentCap size next) where
     pub missing : next ≤ first → Missing ≡ cappedExponent (exponentAt s at)
     unfolding exponentAt
     missing h = rw (e, ← first-is, ← run .next-is, le-leb next first h)

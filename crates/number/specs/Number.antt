@@ -152,11 +152,11 @@ abbrev pub capped : ℕ → ℕ → ℕ
 capped most n = min n most
 
 -- no count of digits in a text plus 22 reaches this
-abbrev pub longest : ℕ
-longest = 2 ^ 63 + 22
+abbrev pub exponentCap : ℕ
+exponentCap = 2 ^ 63 + 22
 
 abbrev pub cappedExponent : Exponent → Exponent
-cappedExponent (Power below size next) = Power below (capped longest size) next
+cappedExponent (Power below size next) = Power below (capped exponentCap size) next
 cappedExponent Missing = Missing
 
 -- the digits at a place, behind those of start: the number that they write and the place after them

@@ -3,7 +3,7 @@ ghost use mathlib.Core.Path.{_≡_};
 ghost use mathlib.Core.Bool.{Bool, true};
 ghost use Prim.Native.Nat.{ℕ, _+_, _-_, _*_, _^_, _<_, _≤_};
 ghost use Rattle.decimal.specs.Decimal.{carried};
-ghost use Rattle.number.specs.Number.{isDigit, isSign, isPoint, isExponent, isWord, after, capped, Run, Joined, longest, carriedBy, exponentAt, cappedExponent, valued, scaled, noNumber, numberAt, numberOn, closed, exprAt, exprOn};
+ghost use Rattle.number.specs.Number.{isDigit, isSign, isPoint, isExponent, isWord, after, capped, Run, Joined, exponentCap, carriedBy, exponentAt, cappedExponent, valued, scaled, noNumber, numberAt, numberOn, closed, exprAt, exprOn};
 use decimal::Carried;
 use decimal::Scale;
 use refusal::Refusal;
@@ -16,7 +16,7 @@ pub struct Number {
 }
 
 // Exponents of this size and more are told apart no more: no text has so many digits after a point that one of them is carried.
-const LONGEST: u64 = 9_223_372_036_854_775_830;
+const EXPONENT_CAP: u64 = 9_223_372_036_854_775_830;
 
 // The most `sqrt(` that stand inside one another.
 const DEPTH: u32 = 8;
@@ -72,7 +72,7 @@ fn after_point(text: &[u8], at: usize) -> usize
 
 // The number of one more digit, up to a limit.
 fn push(m: u64, digit: u8, limit: u64) -> u64
-    requires { ⌜ (m ≤ limit) × (limit ≤ longest) × (isDigit digit ≡ true) ⌝ }
+    requires { ⌜ (m ≤ limit) × (limit ≤ exponentCap) × (isDigit digit ≡ true) ⌝ }
     ensures { λ r. ⌜ r ≡ capped limit (m * 10 + (digit - 48)) ⌝ }
 {
     if m < limit / 10 {
@@ -93,7 +93,7 @@ struct Digits {
 
 // The digits at a place, behind those that wrote `start`.
 fn digits_at(text: &[u8], at: usize, start: u64, limit: u64) -> Digits
-    requires { ⌜ (start ≤ limit) × (limit ≤ longest) ⌝ }
+    requires { ⌜ (start ≤ limit) × (limit ≤ exponentCap) ⌝ }
     ensures { λ r. ⌜ Run (now (text .entry)) at start limit (r .value) (r .next) ⌝ }
 {
     let mut i = at;
@@ -152,7 +152,7 @@ fn exponent_at(text: &[u8], at: usize) -> Exponent
     if is_exponent(text::byte_at(text, at)) {
         let sign = at + 1;
         let first = after_sign(text, sign);
-        let run = digits_at(text, first, 0, LONGEST);
+        let run = digits_at(text, first, 0, EXPONENT_CAP);
         let size = run.value;
         let next = run.next;
         if next <= first {

@@ -1,17 +1,15 @@
 -- Reading a page never ends with nothing read: it ends at a place, or is refused. Assumes nothing.
-use mathlib.Core.Path.{_≡_, refl}
 use mathlib.Core.Bool.{Bool, true, false}
 use mathlib.Core.List.{List}
 use Prim.Native.Nat.{ℕ, zero, suc}
 use lib.ListN.{length}
 use Rattle.ground.specs.Words.{bytes}
-use Rattle.refusal.specs.declared.Refusal.{Refusal}
-use Rattle.text.specs.Text.{from, orStand, due, wsOn, wordOn, byteOn, labelOn, suffixedOn, newlineOn}
+use Rattle.text.specs.Text.{from, orStand, due, wsOn, wordOn, byteOn, newlineOn}
 use Rattle.text.specs.declared.Stand.{Stand}
 use Rattle.text.specs.declared.Stand.the-variants.{At, Nothing, Refused}
-use Rattle.number.specs.Number.{numberOn}
-use Rattle.forms.specs.Forms.{Lines, noLine, pairOn, declareOn, instructionOn, guessedOn, guessOn, lineOn}
+use Rattle.forms.specs.Forms.{Lines, noLine, lineOn}
 use Rattle.forms.specs.Section.{followedBy, stopped, follow, restOf, linesOn}
+use Rattle.forms.proofs.Begin.{line-refused}
 use Rattle.reader.specs.Page.{headingOn, optNewlineOn, problemOf}
 
 -- a place or a refusal
@@ -45,12 +43,6 @@ module _ (s : List ℕ) where
   rest-some zero g at = tt
   rest-some (suc m) g at = follow-some (lineOn g s (newlineOn s (At at))) at (restOf m g s) (rest-some m g)
 
-  -- a refusal is handed on by a line
-  line-refused : (g : Bool) (why : Refusal) → lineOn g s (Refused why) .then ≡ Refused why
-  unfolding instructionOn guessOn guessedOn declareOn pairOn suffixedOn labelOn byteOn wordOn wsOn numberOn
-  line-refused false why = refl
-  line-refused true why = refl
-
   begun-some : (g : Bool) (l : Lines) (t : Stand) → Some t → Some (from t (noLine t) (λ next. followedBy (l .records) (restOf (length s) g s next)) .then)
   begun-some g l (At next) h = rest-some (length s) g next
   begun-some g l Nothing h = h
@@ -60,7 +52,7 @@ module _ (s : List ℕ) where
   unfolding linesOn
   lines-some g number (At p) h = begun-some g (lineOn g s (At p)) (due (At p) (lineOn g s (At p) .then) number) (due-some p number (lineOn g s (At p) .then))
   lines-some g number Nothing h = absurd h
-  lines-some g number (Refused why) h = rw (line-refused g why) tt
+  lines-some g number (Refused why) h = rw (line-refused s g why) tt
 
   gap-some : (t : Stand) → Some t → Some (due t (newlineOn s (newlineOn s t)) 5)
   unfolding byteOn

@@ -9,7 +9,7 @@ use native.Mathlib.Decide.{decLt}
 use lib.ListN.{length, getD, length-append, List·getD-append}
 use lib.Seq.{getD-append-add}
 use Rattle.ground.specs.Words.{bytes}
-use Rattle.text.specs.Text.{orStand, due, wsOn, newlineOn}
+use Rattle.text.specs.Text.{due, wsOn, newlineOn}
 use Rattle.text.specs.declared.Stand.{Stand}
 use Rattle.text.specs.declared.Stand.the-variants.{At}
 use Rattle.record.specs.Decode.{noRecord}

@@ -10,8 +10,7 @@ use lib.ListN.{length, getD, take, drop, length-append, length-map, List·getD-m
 use lib.Seq.{take-at, ext-getD}
 use borrow.Author.Tests.{ltb-false, leb-true, leb-false, lt-ltb}
 use Rattle.refusal.specs.First.{Nowhere}
-use Rattle.text.specs.declared.Stand.{Stand}
-use Rattle.text.specs.declared.Stand.the-variants.{At, Nothing, Refused}
+use Rattle.text.specs.declared.Stand.the-variants.{At}
 use Rattle.record.specs.Record.{recordBytes, mostRecords, longestText, firstGuess, encodeAll}
 use Rattle.record.specs.Decode.{decode, countOf, recordOf, decodeAt, noRecord}
 use Rattle.record.specs.Entry.{noEntry, entryOf}
@@ -25,7 +24,7 @@ use Rattle.record.proofs.WellFormed.{well-formed-iff}
 use Rattle.record.proofs.Written.{good-written, entry-decoded}
 use Rattle.forms.proofs.Stands.{Reached, here}
 use Rattle.reader.specs.declared.Reading.the-variants as reading
-use Rattle.reader.specs.Page.{problemOf, highAt, refused, endedOf, readingOf, recordsIn, linesOf, bufferAfter, Reads}
+use Rattle.reader.specs.Page.{problemOf, highAt, refused, pageOf, readingOf, recordsIn, linesOf, bufferAfter, Reads}
 use Rattle.reader.proofs.Ends.{good-says}
 use Rattle.reader.proofs.Written.{written-fits, read-back}
 use Rattle.reader.proofs.SoundPage.{some-of-each, instruction-at, guess-at, record-at}
@@ -85,28 +84,26 @@ pub record GoodPage (s : List ℕ) (i g end : ℕ) : Type 0 where
 
 module _ (whole : Bool) (s : List ℕ) (size i g end : ℕ) where
   -- an answer that is good was not refused
-  good-ended : (t : Stand) → length s ≤ longestText → problemOf s .then ≡ t → endedOf whole s (problemOf s) size t ≡ reading.Good i g end → GoodPage s i g end
-  good-ended (At e) short at h =
-      let w = good-says whole (length s) (length (problemOf s .instructions)) (length (problemOf s .guesses)) size e i g end h in
+  good-ended : length s ≤ longestText → pageOf whole s (problemOf s) size ≡ reading.Good i g end → GoodPage s i g end
+  good-ended short h =
+      let w = good-says whole (length s) (length (problemOf s .instructions)) (length (problemOf s .guesses)) size i g end (problemOf s .then) h in
       record {
         short = short;
-        ended = at ∙ ap At (sym (w .end-is));
+        ended = w .ended;
         instructions-are = w .instructions-are;
         guesses-are = w .guesses-are;
         few = omega (arith, w .few, length-append (problemOf s .instructions) (problemOf s .guesses));
       }
-  good-ended Nothing short at h = let c : _≡_ {A = ℕ} 0 1 = cc in absurd (omega arith)
-  good-ended (Refused why) short at h = let c : _≡_ {A = ℕ} 0 1 = cc in absurd (omega arith)
 
   good-read : readingOf whole s size ≡ reading.Good i g end → GoodPage s i g end
   unfolding readingOf
   good-read h = go (ltb longestText (length s)) (ltb (highAt s) (length s)) refl h
     where
       go : (a b : Bool) → ltb longestText (length s) ≡ a
-          → cond a (refused 1 0) (cond b (refused 2 (highAt s)) (endedOf whole s (problemOf s) size (problemOf s .then))) ≡ reading.Good i g end → GoodPage s i g end
+          → cond a (refused 1 0) (cond b (refused 2 (highAt s)) (pageOf whole s (problemOf s) size)) ≡ reading.Good i g end → GoodPage s i g end
       go true b e k = let c : _≡_ {A = ℕ} 0 1 = cc in absurd (omega arith)
       go false true e k = let c : _≡_ {A = ℕ} 0 1 = cc in absurd (omega arith)
-      go false false e k = good-ended (problemOf s .then) (ltb-false longestText (length s) e) refl k
+      go false false e k = good-ended (ltb-false longestText (length s) e) k
 
 -- ---- what a good reading writes
 

@@ -61,17 +61,21 @@ toldOf whole size instructions guesses bytes end =
     (reading.Good instructions guesses end)))
 
 -- where reading stands in the end; it never ends with nothing read (`never-nothing` in proofs/Never)
-abbrev pub endedOf : Bool → List ℕ → Problem → ℕ → Stand → Reading
-endedOf whole s p bytes (At end) = toldOf whole (length s) (length (p .instructions)) (length (p .guesses)) bytes end
-endedOf whole s p bytes Nothing = refused 3 0
-endedOf whole s p bytes (Refused why) = reading.Refused why
+abbrev pub endedOf : Bool → ℕ → ℕ → ℕ → ℕ → Stand → Reading
+endedOf whole size instructions guesses bytes (At end) = toldOf whole size instructions guesses bytes end
+endedOf whole size instructions guesses bytes Nothing = refused 3 0
+endedOf whole size instructions guesses bytes (Refused why) = reading.Refused why
+
+-- a page of a text
+abbrev pub pageOf : Bool → List ℕ → Problem → ℕ → Reading
+pageOf whole s p bytes = endedOf whole (length s) (length (p .instructions)) (length (p .guesses)) bytes (p .then)
 
 -- 1, 2, then 3 to 9, then 10 to 12, for a buffer of so many bytes
 unfoldable pub readingOf : Bool → List ℕ → ℕ → Reading
 readingOf whole s bytes =
     cond (ltb longestText (length s)) (refused 1 0)
     (cond (ltb (highAt s) (length s)) (refused 2 (highAt s))
-    (endedOf whole s (problemOf s) bytes (problemOf s .then)))
+    (pageOf whole s (problemOf s) bytes))
 
 -- ---- what is written
 

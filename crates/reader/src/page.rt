@@ -2,9 +2,9 @@
 ghost use mathlib.Core.Path.{_≡_};
 ghost use Prim.Native.Nat.{_≤_, _<_};
 ghost use lib.ListN.{length};
-ghost use Rattle.record.specs.Record.{longestText};
-ghost use Rattle.reader.specs.Page.{headingOn, optNewlineOn, highAt, Reads, refused, toldOf};
-ghost use Rattle.reader.specs.Steps.{Paged, Ended};
+ghost use Rattle.record.specs.Record.{mostRecords, longestText};
+ghost use Rattle.reader.specs.Page.{headingOn, optNewlineOn, highAt, Reads, refused, toldOf, endedOf};
+ghost use Rattle.reader.specs.Steps.{Paged, toldRecords, Ended};
 use crate::Reading;
 use refusal::Refusal;
 use text::Stand;
@@ -110,7 +110,7 @@ fn refused(number: u8, place: usize) -> Reading
 }
 
 // What is told of a page that was read to a place.
-fn tell(text: &[u8], page: Page, whole: bool, bytes: usize, end: usize) -> Reading
+fn tell_end(text: &[u8], page: Page, whole: bool, bytes: usize, end: usize) -> Reading
     requires { ⌜ (page .instructions ≤ 100000) × (page .guesses ≤ 100000) ⌝ }
     ensures { λ r. ⌜ r ≡ toldOf whole (length (now (text .entry))) (page .instructions) (page .guesses) bytes end ⌝ }
 {
@@ -131,39 +131,52 @@ fn tell(text: &[u8], page: Page, whole: bool, bytes: usize, end: usize) -> Readi
     }
 }
 
+// What is told of a page, by where reading stands in the end.
+fn tell(text: &[u8], page: Page, whole: bool, bytes: usize) -> Reading
+    requires { ⌜ (page .instructions ≤ 100000) × (page .guesses ≤ 100000) ⌝ }
+    ensures { λ r. ⌜ r ≡ endedOf whole (length (now (text .entry))) (page .instructions) (page .guesses) bytes (page .then) ⌝ }
+{
+    let then = page.then;
+    match then {
+        Stand::At(end) => tell_end(text, page, whole, bytes, end),
+        Stand::Nothing => refused(3, 0),
+        Stand::Refused(why) => Reading::Refused(why),
+    }
+}
+
+// How many records an answer tells of.
+fn count_of(told: Reading) -> usize
+    requires { ⌜ toldRecords told ≤ mostRecords ⌝ }
+    ensures { λ r. ⌜ (r ≡ toldRecords told) × (r ≤ mostRecords) ⌝ }
+{
+    match told {
+        Reading::Good {
+            instructions,
+            guesses,
+            end: _,
+        } => instructions + guesses,
+        Reading::Refused(_) => 0,
+    }
+}
+
 // Zeros for the most records.
-fn room() -> [u8; record::ROOM]
+fn zeros() -> [u8; record::ROOM]
     ensures { λ r. ⌜ 50400 ≡ length r ⌝ }
 {
     [0; record::ROOM]
 }
 
-// Reads a page into the reader's own buffer, and copies its records where they fit.
+// Reads a page into the reader's own buffer, and copies the records that are told.
 fn read_into(text: &[u8], records: &mut [u8], whole: bool) -> Reading
     requires { ⌜ length (now text) ≤ longestText ⌝ }
     ensures { λ r. ⌜ Ended whole (now (text .entry)) (now (records .entry)) r (now (records .exit)) ⌝ }
 {
-    let mut own = room();
+    let mut own = zeros();
     let page = read_page(text, &mut own);
-    let then = page.then;
-    match then {
-        Stand::At(end) => {
-            let told = tell(text, page, whole, records.len(), end);
-            let Reading::Good {
-                instructions,
-                guesses,
-                end: _,
-            } = told
-            else {
-                return told;
-            };
-            let n = record::SIZE * (instructions + guesses);
-            store::put(records, 0, &own[..n]);
-            told
-        }
-        Stand::Nothing => refused(3, 0),
-        Stand::Refused(why) => Reading::Refused(why),
-    }
+    let told = tell(text, page, whole, records.len());
+    let n = record::SIZE * count_of(told);
+    store::put(records, 0, &own[..n]);
+    told
 }
 
 // Reads a page: 1 and 2 are told of the text before anything is read of it.

@@ -2,8 +2,6 @@
 use Rattle.ground.proofs.Determined.{Determined, by-equation}
 use Rattle.text.proofs.or_stand.Kinds as or-stand-kinds
 use Rattle.text.proofs.or_stand.Reads as or-stand
-use Rattle.text.proofs.missing.Kinds as missing-kinds
-use Rattle.text.proofs.missing.Reads as missing
 use Rattle.text.proofs.refuse.Kinds as refuse-kinds
 use Rattle.text.proofs.refuse.Reads as refuse
 use Rattle.text.proofs.byte_at.Kinds as byte-at-kinds
@@ -25,9 +23,6 @@ use Rattle.text.proofs.newline.Reads as newline
 
 pub or-stand-only : Determined 0 or-stand-kinds.ps or-stand-kinds.r or-stand.Post
 or-stand-only κs a x y e f p q = by-equation p q
-
-pub missing-only : Determined 0 missing-kinds.ps missing-kinds.r missing.Post
-missing-only κs a x y e f p q = by-equation p q
 
 pub refuse-only : Determined 0 refuse-kinds.ps refuse-kinds.r refuse.Post
 refuse-only κs a x y e f p q = by-equation p q

@@ -30,7 +30,7 @@ pub fn or_stand(read: Stand, other: Stand) -> Stand
 }
 
 // What is due at a place is refused there by a number.
-pub fn missing(stand: Stand, number: u8) -> Stand
+fn missing(stand: Stand, number: u8) -> Stand
     ensures { λ r. ⌜ r ≡ missed stand number ⌝ }
 {
     let Stand::At(place) = stand else {

@@ -4,7 +4,7 @@ use mathlib.Core.Path.{_≡_, sym, _∙_}
 use Prim.Native.Nat.{_-_}
 use lib.ListN.{drop}
 use Rattle.text.specs.declared.Stand.the-variants.{At}
-use Rattle.forms.specs.Forms.{order, firstOf}
+use Rattle.forms.specs.Forms.{keywordKinds, firstOf}
 use Rattle.forms.proofs.Begin.{skipped}
 use Rattle.text.proofs.Laws.{taken}
 use Rattle.forms.proofs.Table.{keyword-long}
@@ -13,7 +13,7 @@ use Rattle.forms.proofs.keywords.keyword_forms.Statement.{statement}
 use Rattle.forms.proofs.keywords.keyword_forms.Tie as tie
 
 abbrev Inv-loop : tie.InvT-loop
-Inv-loop text at kinds array i₀ i = firstOf text (At at) order ≡ firstOf text (At at) (drop i order)
+Inv-loop text at kinds array i₀ i = firstOf text (At at) keywordKinds ≡ firstOf text (At at) (drop i keywordKinds)
 
 abbrev μ-loop : tie.MeasureT-loop
 μ-loop text at kinds array i₀ i = 18 - i
@@ -31,7 +31,7 @@ returns c =
     let a = c .before .before .before .before .before .before .before .args in
     let l = c .before .before .before .loop in
     let k = c .before .try-keyword in
-    rw (l .inv ∙ first-here (a .text .now) (At (a .at)) order (l .i) (c .before .before .loop-test .taken), ← k .ensures)
+    rw (l .inv ∙ first-here (a .text .now) (At (a .at)) keywordKinds (l .i) (c .before .before .loop-test .taken), ← k .ensures)
     (taken (k .result .then) _ _ (c .match .keys2))
 
 loop-again : tie.Need-loop-again Inv-loop μ-loop
@@ -39,14 +39,14 @@ loop-again c =
     let a = c .before .before .before .before .before .before .before .before .args in
     let l = c .before .before .before .before .loop in
     l .inv
-    ∙ first-more (a .text .now) (At (a .at)) order (l .i) (c .before .before .before .loop-test .taken)
+    ∙ first-more (a .text .now) (At (a .at)) keywordKinds (l .i) (c .before .before .before .loop-test .taken)
     (rw (← c .before .before .try-keyword .ensures) (c .enum-told .given .1))
 
 returns-2 : tie.Need-returns-2 Inv-loop μ-loop
 returns-2 c =
     let a = c .before .before .before .before .before .before .args in
     let l = c .before .before .loop in
-    rw (c .no-line .ensures) (sym (l .inv ∙ first-none (a .text .now) (At (a .at)) order (l .i) (c .before .loop-test .left)))
+    rw (c .no-line .ensures) (sym (l .inv ∙ first-none (a .text .now) (At (a .at)) keywordKinds (l .i) (c .before .loop-test .left)))
 
 pub keyword-forms-spec : {M : Type 1} → statement M
 keyword-forms-spec = tie.close (tie.spec Inv-loop μ-loop (λ c κs. search needs) (λ c κs. search needs) loop-holds (λ c. search needs) try-keyword-requires (λ c. search needs) returns (λ c. search needs) (λ c. search needs) loop-again (λ c κs. search needs) returns-2)

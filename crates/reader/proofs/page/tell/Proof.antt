@@ -1,20 +1,16 @@
--- `reader::page::tell` meets its contract: each way out rewrites with the tests that led there. Assumes nothing.
+-- `reader::page::tell` meets its contract: it goes by where reading stands. Assumes nothing.
 use borrow.Author.Needs.{needs}
-use borrow.Author.Tests.{lt-ltb, le-ltb}
 use Rattle.reader.proofs.page.tell.Statement.{statement}
 use Rattle.reader.proofs.page.tell.Tie as tie
 
 returns : tie.Need-returns
-returns c = rw (c .before .if1 .taken) (c .refused .ensures)
+returns c = rw (c .before .before .then .given .1) (c .tell-end .ensures)
 
 returns-2 : tie.Need-returns-2
-returns-2 c = rw (c .before .before .if1 .left, lt-ltb _ _ (c .before .if2 .taken)) (c .refused2 .ensures)
+returns-2 c = rw (c .before .enum-told .given .1) (c .refused .ensures)
 
 returns-3 : tie.Need-returns-3
-returns-3 c = rw (c .before .before .before .if1 .left, le-ltb _ _ (c .before .before .if2 .left), lt-ltb _ _ (c .before .if3 .taken)) (c .refused3 .ensures)
-
-returns-4 : tie.Need-returns-4
-returns-4 c = rw (c .before .before .if1 .left, le-ltb _ _ (c .before .if2 .left), le-ltb _ _ (c .if3 .left))
+returns-3 c = rw (c .before .then2 .given .1)
 
 pub tell-spec : {M : Type 1} → statement M
-tell-spec = tie.close (tie.spec (λ c. search needs) (λ c κs. search needs) returns (λ c κs. search needs) returns-2 (λ c. search needs) (λ c κs. search needs) returns-3 returns-4)
+tell-spec = tie.close (tie.spec (λ c. search needs) (λ c κs. search needs) (λ c. search needs) (λ c κs. search needs) (λ c. search needs) returns returns-2 returns-3)
