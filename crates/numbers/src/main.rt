@@ -103,11 +103,11 @@ fn put_number(bits: u64, then: Stand) {
             put_decimal(next as u64);
         }
         Stand::Nothing => put(b"nothing"),
-        Stand::Refused { number, place } => {
+        Stand::Refused(r) => {
             put(b"refused ");
-            put_decimal(number as u64);
+            put_decimal(r.number as u64);
             put(b" ");
-            put_decimal(place as u64);
+            put_decimal(r.place as u64);
         }
     }
 }

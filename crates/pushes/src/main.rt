@@ -192,30 +192,17 @@ fn step(letter: u8, now: Now, ids: &mut [u32], values: &mut [f64], v: f64) -> To
     let c = now.circles;
     let a = now.arcs;
     let s = now.stage;
-    let next = now.next;
+    let n = now.next;
     let w = v + 0.25;
     let x = v + 0.5;
     let y = v + 0.75;
+    let z = v + 1.0;
+    let u = v + 1.25;
     let mut out = [0u64; PARTS];
     let code = match letter {
-        b'P' => shapes::hunposeto_push_point(p, c, a, s, next, ids, values, v, w, &mut out),
-        b'C' => shapes::hunposeto_push_circle(p, c, a, s, next, ids, values, v, w, x, &mut out),
-        b'A' => shapes::hunposeto_push_arc(
-            p,
-            c,
-            a,
-            s,
-            next,
-            ids,
-            values,
-            v,
-            w,
-            x,
-            y,
-            v + 1.0,
-            v + 1.25,
-            &mut out,
-        ),
+        b'P' => shapes::hunposeto_push_point(p, c, a, s, n, ids, values, v, w, &mut out),
+        b'C' => shapes::hunposeto_push_circle(p, c, a, s, n, ids, values, v, w, x, &mut out),
+        b'A' => shapes::hunposeto_push_arc(p, c, a, s, n, ids, values, v, w, x, y, z, u, &mut out),
         _ => shapes::hunposeto_done(p, c, a, s, &mut out),
     };
     Told { code, parts: out }
