@@ -7,7 +7,7 @@ use native.Mathlib.Decide.{decLt}
 use native.Mathlib.Omega.{arith}
 use lib.ListN.{List·getD-eq-default, length, getD, take, drop, length-map}
 use lib.Seq.{take-length, getD-at}
-use Rattle.layout.specs.Refusals.{idsEnd}
+use Rattle.layout.specs.Slots.{idsEnd}
 use Rattle.record.specs.Kinds.{Rule, firstRule, lastRule}
 use Rattle.record.specs.Entry.{Label, Entry, noEntry, entryAt}
 use Rattle.index.specs.Labels.{kindNo, within}

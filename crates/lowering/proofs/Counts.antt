@@ -110,7 +110,7 @@ pub length-of : (s : Shape) (es : List Entry) → length (slotsOf s es) ≡ leng
 length-of s es = length-flat (slotsOfShape s) (size s) (labelsOf s es) (each-of (λ l. length (slotsOfShape s l) ≡ size s) (labelsOf s es) [] (λ j h. length-shape s _))
 
 module _ (es : List Entry) where
-  pub length-slots : length (slots es) ≡ layout.slotsOf (layoutOf es)
+  pub length-slots : length (slots es) ≡ layout.slotCount (layoutOf es)
   unfolding slots
   length-slots =
       length-append (slotsOf point es) (slotsOf circle es ++ slotsOf arc es)

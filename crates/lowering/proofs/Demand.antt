@@ -13,7 +13,7 @@ use Rattle.ground.proofs.Lists.{and-second}
 use Rattle.refusal.specs.First.{EachBelow}
 use Rattle.layout.specs.declared.Layout.{Layout}
 use Rattle.layout.specs.Slots as layout
-use Rattle.layout.specs.Refusals.{idsEnd}
+use Rattle.layout.specs.Slots.{idsEnd}
 use Rattle.layout.specs.Push.{onward}
 use Rattle.layout.proofs.Onward.{length-onward, getD-onward}
 use Rattle.record.specs.Record.{recordBytes, mostRecords, longestText}

@@ -13,7 +13,7 @@ use Rattle.refusal.specs.declared.Refusal.{Refusal}
 use Rattle.refusal.specs.Refusal.{refusal}
 use Rattle.refusal.specs.First.{Answer, passed, refused}
 use Rattle.layout.specs.declared.Layout.{Layout}
-use Rattle.layout.specs.Refusals.{idsEnd}
+use Rattle.layout.specs.Slots.{idsEnd}
 use Rattle.layout.specs.Push.{onward}
 use Rattle.record.specs.Record.{mostRecords}
 use Rattle.record.specs.Kinds.{firstRule, lastRule}

@@ -18,11 +18,12 @@ use Rattle.layout.specs.declared.PointIds.the-variants as PI
 use Rattle.layout.specs.declared.CircleIds.the-variants as CI
 use Rattle.layout.specs.declared.ArcIds.the-variants as AI
 use Rattle.layout.specs.Slots as layout
-use Rattle.layout.specs.Refusals.{lookTests}
+use Rattle.layout.specs.Refusals.{reasonNumber, lookTold}
 use Rattle.layout.specs.Push.{onward}
 use Rattle.layout.specs.Look.{pointVars, circleVars, arcVars, pointIds, circleIds, arcSlotIds}
-use Rattle.layout.proofs.Told.{Clear, told-clear}
-use Rattle.layout.proofs.Laws.{look-clear}
+use Rattle.refusal.specs.First.{passed}
+use Rattle.refusal.proofs.Once.{answered-passed}
+use Rattle.layout.proofs.Laws.{look-passes}
 use Rattle.layout.proofs.Onward.{length-onward, getD-onward}
 use Rattle.record.specs.Record.{mostRecords}
 use Rattle.record.specs.Kinds.{kindAt, Rule, newPoint, newArc, firstRule, lastRule, fixComponent, fixCenter}
@@ -120,7 +121,7 @@ point-at third (inr o) = rw o (refl, omega arith)
 
 -- ---- the ids of a declared shape
 
-count-in : (es : List Entry) (s : Shape) → layout.countOf (kindFor s) (layoutOf es) ≡ howMany s es
+count-in : (es : List Entry) (s : Shape) → layout.shapesIn (kindFor s) (layoutOf es) ≡ howMany s es
 count-in es point = refl
 count-in es circle = refl
 count-in es arc = refl
@@ -140,9 +141,9 @@ module _ (es : List Entry) (w : Fine es) (few : length es ≤ mostRecords) (next
       omega (arith, length-append (onward next k) (drop (length (onward next k)) ids), length-onward next k)
 
   module _ (j : ℕ) (s : Shape) (d : Declares es j s) where
-    clear : Clear (lookTests (kindFor s) (layoutOf es) (length given) (before s es j))
+    clear : lookTold (kindFor s) (layoutOf es) (length given) (before s es j) ≡ passed
     clear =
-        look-clear (kindFor s) (layoutOf es) (length given) (before s es j) (possible es (omega (arith, few))) (omega (arith, long, length-slots es))
+        look-passes (kindFor s) (layoutOf es) (length given) (before s es j) (possible es (omega (arith, few))) (omega (arith, long, length-slots es))
         (rw (count-in es s) (before-inside es j s d))
 
     -- the id of component k
@@ -154,7 +155,7 @@ module _ (es : List Entry) (w : Fine es) (few : length es ≤ mostRecords) (next
   six-is j point d =
       let at = firstSlot point es j in
       rw (
-        told-clear PI.Refused (lookTests (kindFor point) (layoutOf es) (length given) (before point es j)) (PI.Found (pointVars given at)) (clear j point d),
+        answered-passed reasonNumber PI.Refused (lookTold (kindFor point) (layoutOf es) (length given) (before point es j)) (PI.Found (pointVars given at)) (clear j point d),
         own-id j point d 0 at (next + at) (omega arith) (omega arith) (omega arith),
         own-id j point d 1 (at + 1) (suc (next + at)) (omega arith) (omega arith) (omega arith),
       )
@@ -162,7 +163,7 @@ module _ (es : List Entry) (w : Fine es) (few : length es ≤ mostRecords) (next
   six-is j circle d =
       let at = firstSlot circle es j in
       rw (
-        told-clear CI.Refused (lookTests (kindFor circle) (layoutOf es) (length given) (before circle es j)) (CI.Found (circleVars given at)) (clear j circle d),
+        answered-passed reasonNumber CI.Refused (lookTold (kindFor circle) (layoutOf es) (length given) (before circle es j)) (CI.Found (circleVars given at)) (clear j circle d),
         own-id j circle d 0 at (next + at) (omega arith) (omega arith) (omega arith),
         own-id j circle d 1 (at + 1) (suc (next + at)) (omega arith) (omega arith) (omega arith),
         own-id j circle d 2 (at + 2) (suc (suc (next + at))) (omega arith) (omega arith) (omega arith),
@@ -171,7 +172,7 @@ module _ (es : List Entry) (w : Fine es) (few : length es ≤ mostRecords) (next
   six-is j arc d =
       let at = firstSlot arc es j in
       rw (
-        told-clear AI.Refused (lookTests (kindFor arc) (layoutOf es) (length given) (before arc es j)) (AI.Found (arcVars given at)) (clear j arc d),
+        answered-passed reasonNumber AI.Refused (lookTold (kindFor arc) (layoutOf es) (length given) (before arc es j)) (AI.Found (arcVars given at)) (clear j arc d),
         own-id j arc d 0 at (next + at) (omega arith) (omega arith) (omega arith),
         own-id j arc d 1 (at + 1) (suc (next + at)) (omega arith) (omega arith) (omega arith),
         own-id j arc d 2 (at + 2) (suc (suc (next + at))) (omega arith) (omega arith) (omega arith),

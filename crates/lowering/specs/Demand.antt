@@ -13,7 +13,7 @@ use Rattle.layout.specs.declared.PointRead.the-variants as PR
 use Rattle.layout.specs.declared.CircleRead.the-variants as CR
 use Rattle.layout.specs.declared.ArcRead.the-variants as AR
 use Rattle.layout.specs.Slots as layout
-use Rattle.layout.specs.Refusals.{idsEnd}
+use Rattle.layout.specs.Slots.{idsEnd}
 use Rattle.layout.specs.Look.{pointIds, circleIds, arcSlotIds, pointRead, circleRead, arcRead}
 use Rattle.layout.specs.Run.{Distinct}
 use Rattle.record.specs.Kinds.{Rule, Guess, firstRule, lastRule}

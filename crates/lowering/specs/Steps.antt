@@ -21,7 +21,9 @@ use Rattle.layout.specs.declared.CircleIds.the-variants as CI
 use Rattle.layout.specs.declared.ArcIds.{ArcIds}
 use Rattle.layout.specs.declared.ArcIds.the-variants as AI
 use Rattle.layout.specs.Slots as layout
-use Rattle.layout.specs.Refusals.{told, doneTests, idsEnd}
+use Rattle.refusal.specs.First.{answered}
+use Rattle.layout.specs.Slots.{idsEnd}
+use Rattle.layout.specs.Refusals.{reasonNumber, doneTold}
 use Rattle.layout.specs.Push.{State, over, onward, after, stepped}
 use Rattle.layout.specs.Run.{act, done}
 use Rattle.layout.specs.Look.{pointIds, circleIds, arcSlotIds}
@@ -87,7 +89,7 @@ pushedBelow es kind (suc i) s = pushedAt es kind i (pushedBelow es kind i s)
 
 -- the layout at the next stage
 abbrev pub step : Layout → Layout
-step l = told (λ r. l) (doneTests l) (stepped l)
+step l = answered reasonNumber (λ r. l) (doneTold l) (stepped l)
 
 -- the state after all shapes of a kind are pushed, at the next stage
 abbrev pub stage : List Entry → ℕ → State → State

@@ -4,14 +4,13 @@ use batch::line::number;
 use batch::line::until;
 use bridge::PARTS;
 use bridge::shapes;
+use layout::IDS_END;
+use layout::SLOTS;
 use libc::STDIN_FILENO;
 use libc::STDOUT_FILENO;
 
-// The most slots of a layout.
-const SLOTS: usize = 44_000;
-
-// One more than any id.
-const IDS: u64 = 4_294_967_296;
+// How many ids there can be: those that are given, and the one past them.
+const IDS: u64 = (IDS_END as u64) + 1;
 
 // A layout by its counts and the number of its stage, the next id, and how much of each slice is lent.
 struct Now {

@@ -3,6 +3,7 @@
 // damaged, if there is one; `SAY`, which prints the rest of the line.
 use batch::line::number;
 use batch::line::until;
+use layout::IDS_END;
 use libc::STDIN_FILENO;
 use libc::STDOUT_FILENO;
 use lowering::Lowered;
@@ -24,8 +25,8 @@ const ID: u32 = 7;
 
 const BYTE: u8 = 9;
 
-// One more than any id.
-const IDS: u64 = 4_294_967_296;
+// How many ids there can be: those that are given, and the one past them.
+const IDS: u64 = (IDS_END as u64) + 1;
 
 // A page by the places where it begins and ends.
 struct Page {
