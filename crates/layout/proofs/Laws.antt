@@ -13,7 +13,8 @@ use Rattle.layout.specs.declared.ShapeKind.the-variants.{Point, Circle, 
 use Rattle.layout.specs.declared.Layout.{Layout}
 use Rattle.layout.specs.declared.Place.{Place}
 use Rattle.layout.specs.declared.Place.the-variants.{At, Not}
-use Rattle.layout.specs.Slots.{sizeOf, shapesIn, withOne, slotCount, slotOf, stageNumber, stageDue, Small, mostShapes, idsEnd}
+use Rattle.layout.specs.Slots.{sizeOf, shapesIn, withOne, slotCount, slotOf, stageNumber, stageDue, mostShapes, idsEnd}
+use Rattle.layout.specs.Steps.{Small, nextAfter}
 use Rattle.layout.specs.declared.Stage.{Stage}
 use Rattle.layout.specs.declared.Stepped.the-variants as S
 use Rattle.layout.specs.declared.Pushed.{Pushed}
@@ -22,7 +23,7 @@ use Rattle.refusal.specs.declared.Refusal.{Refusal}
 use Rattle.refusal.specs.First.{lowest, first, once, passed, answered}
 use Rattle.refusal.specs.Refusal.{refusal}
 use Rattle.refusal.proofs.Once.{clear-passes, passed-clear, answered-passed, answered-good, answered-pair}
-use Rattle.layout.specs.Push.{State, state, over, onward, toldIn, filled, pushed, Fills, nextOf, stageAfter, doneOf}
+use Rattle.layout.specs.Push.{State, state, over, onward, toldIn, filled, pushed, Fills, stageAfter, doneOf}
 use Rattle.layout.specs.Refusals.{Reason, reasonNumber, cannot-be, wrong-stage, full, short, few-ids, no-shape, pushOrder, doneOrder, lookOrder, Rising, impossible, barsPush, barsDone, barsLook, pushTold, doneTold, lookTold}
 use Rattle.layout.proofs.Placed.{as-refused, is-passed, the-place, as-found}
 
@@ -181,8 +182,8 @@ pub refused-state : (k : ShapeKind) (vs : List Float) (s : State) (r : Refusal) 
 refused-state k vs s r ids values f = answered-pair reasonNumber (λ (z : Pushed) (t : State). P.Refused r ≡ z → s ≡ t) _ _ (toldIn k s) _ _ (λ r′ e. refl) (λ c e. absurd (pushed-good _ _ r e)) (f .answer)
 
 -- the next id that an answer says is the state's
-pub next-is : (k : ShapeKind) (vs : List Float) (s : State) (r : Pushed) (ids : List ℕ) (values : List Float) → Fills k vs s r ids values → nextOf r (s .next) ≡ pushed k vs s .next
-next-is k vs s r ids values f = ap (λ (z : Pushed). nextOf z (s .next)) (f .answer) ∙ answered-pair reasonNumber (λ (z : Pushed) (t : State). nextOf z (s .next) ≡ t .next) _ _ (toldIn k s) _ _ (λ r. refl) (λ c. refl)
+pub next-is : (k : ShapeKind) (vs : List Float) (s : State) (r : Pushed) (ids : List ℕ) (values : List Float) → Fills k vs s r ids values → nextAfter r (s .next) ≡ pushed k vs s .next
+next-is k vs s r ids values f = ap (λ (z : Pushed). nextAfter z (s .next)) (f .answer) ∙ answered-pair reasonNumber (λ (z : Pushed) (t : State). nextAfter z (s .next) ≡ t .next) _ _ (toldIn k s) _ _ (λ r. refl) (λ c. refl)
 
 -- ---- `done`
 module _ (l : Layout) where

@@ -5,3 +5,4 @@ pub mod Look
 pub mod Run
 pub mod Parts
 pub mod Claims
+pub mod Steps

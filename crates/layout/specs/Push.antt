@@ -73,11 +73,6 @@ pub record PushLent (shape : Shape) (l : Layout) (c : Counter) (ids : List ℕ) 
   pub push : Push shape (state l (c .next) ids values) r ids′ values′
   pub counter-is : c′ ≡ record { next = after shape (state l (c .next) ids values) .next }
 
--- the next id after a push's answer
-abbrev pub nextOf : Pushed → ℕ → ℕ
-nextOf (P.Good l n) next = n
-nextOf (P.Refused r) next = next
-
 -- the stage after a stage
 abbrev pub stageAfter : Stage → Stage
 stageAfter Points = Circles

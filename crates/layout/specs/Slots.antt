@@ -1,5 +1,5 @@
 -- Slots: all points (x, y), then circles (center x, center y, radius), then arcs (a.x, a.y, b.x, b.y, center.x, center.y).
-use Prim.Native.Nat.{ℕ, _+_, _*_, _≤_}
+use Prim.Native.Nat.{ℕ, _+_, _*_}
 use mathlib.Core.List.{List, [], _∷_}
 use lib.Ieee.{Float}
 use Rattle.layout.specs.declared.Stage.{Stage}
@@ -63,10 +63,7 @@ withOne K.Point l = record { points = l .points + 1; circles = l .circles; arcs 
 withOne K.Circle l = record { points = l .points; circles = l .circles + 1; arcs = l .arcs; stage = l .stage }
 withOne K.Arc l = record { points = l .points; circles = l .circles; arcs = l .arcs + 1; stage = l .stage }
 
--- the most slots of a shape, and of a layout
-abbrev pub mostSize : ℕ
-mostSize = sizeOf K.Arc
-
+-- the most slots of a layout
 abbrev pub mostSlots : ℕ
 mostSlots = mostShapes * (sizeOf K.Point + sizeOf K.Circle + sizeOf K.Arc)
 
@@ -83,12 +80,6 @@ kindStart K.Arc l = l .points * sizeOf K.Point + l .circles * sizeOf K.Circle
 -- the first slot of shape i of a kind
 abbrev pub slotOf : ShapeKind → Layout → ℕ → ℕ
 slotOf k l i = kindStart k l + i * sizeOf k
-
--- no count is over the most
-pub record Small (l : Layout) : Type 0 where
-  pub points : l .points ≤ mostShapes
-  pub circles : l .circles ≤ mostShapes
-  pub arcs : l .arcs ≤ mostShapes
 
 -- ---- stages: points, circles, arcs, done
 

@@ -7,11 +7,12 @@ use crate::Point;
 use crate::Pushed;
 ghost use mathlib.Core.Path.{_≡_};
 ghost use Rattle.layout.specs.Slots.{point, circle, arc};
-ghost use Rattle.layout.specs.Push.{nextOf, PushLent};
+ghost use Rattle.layout.specs.Push.{PushLent};
+ghost use Rattle.layout.specs.Steps.{nextAfter};
 
 // The next id after a push.
 fn next_of(p: Pushed, next: u32) -> u32
-    ensures { λ r. ⌜ r ≡ nextOf p next ⌝ }
+    ensures { λ r. ⌜ r ≡ nextAfter p next ⌝ }
 {
     match p {
         Pushed::Good(_, n) => n,

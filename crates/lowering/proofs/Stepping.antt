@@ -18,7 +18,8 @@ use Rattle.layout.specs.declared.Stepped.the-variants as S
 use Rattle.layout.specs.Slots as layout
 use Rattle.layout.specs.Slots.{idsEnd}
 use Rattle.layout.specs.Refusals.{reasonNumber, doneTold}
-use Rattle.layout.specs.Push.{State, state, after, Push, toldIn, filled, stepped, nextOf, doneOf}
+use Rattle.layout.specs.Push.{State, state, after, Push, toldIn, filled, stepped, doneOf}
+use Rattle.layout.specs.Steps.{nextAfter}
 use Rattle.refusal.proofs.Once.{answered-pair}
 use Rattle.record.specs.Entry.{Label, Entry}
 use Rattle.index.specs.Labels.{kindNo, nameNo}
@@ -81,13 +82,13 @@ push-as {s = s} {r = r} {ids = ids} {values = values} x y e p = subst (λ (z : l
 
 -- the layout and the next id after a push, with the slices after it, are the state after it
 pub push-state : (shape : layout.Shape) (l : Layout) (next : ℕ) (ids : List ℕ) (values : List Float) (r : Pushed) (ids′ : List ℕ) (values′ : List Float)
-    → Push shape (state l next ids values) r ids′ values′ → state (layoutAfter r l) (nextOf r next) ids′ values′ ≡ after shape (state l next ids values)
+    → Push shape (state l next ids values) r ids′ values′ → state (layoutAfter r l) (nextAfter r next) ids′ values′ ≡ after shape (state l next ids values)
 push-state shape l next ids values r ids′ values′ p =
     let s = state l next ids values in
     let k = layout.kindOf shape in
     let vs = layout.components shape in
     rw (p .answer, p .ids-are, p .values-are)
-    (answered-pair reasonNumber (λ (q : Pushed) (t : State). state (layoutAfter q l) (nextOf q next) (t .ids) (t .values) ≡ t) P.Refused (λ r. s) (toldIn k s) (P.Good (filled k vs s .layout) (filled k vs s .next)) (filled k vs s) (λ r. refl) (λ c. refl))
+    (answered-pair reasonNumber (λ (q : Pushed) (t : State). state (layoutAfter q l) (nextAfter q next) (t .ids) (t .values) ≡ t) P.Refused (λ r. s) (toldIn k s) (P.Good (filled k vs s .layout) (filled k vs s .next)) (filled k vs s) (λ r. refl) (λ c. refl))
 
 module _ (es : List Entry) (kind i : ℕ) (s : State) (k : ℕ) (is : k ≡ kindNo es i) where
   -- an entry of the kind is pushed

@@ -9,7 +9,8 @@ ghost use Rattle.record.specs.Record.{mostRecords};
 ghost use Rattle.index.specs.Labels.{drawn, labelled, lowestOr};
 ghost use Rattle.index.specs.Chains.{Chained};
 ghost use Rattle.layout.specs.Slots.{empty};
-ghost use Rattle.layout.specs.Push.{Push, state, nextOf};
+ghost use Rattle.layout.specs.Push.{Push, state};
+ghost use Rattle.layout.specs.Steps.{nextAfter};
 ghost use Rattle.lowering.specs.Steps.{pairFor, circleFor, arcFor, shapeFor, shapeOf, layoutAfter, pushedAt, pushedBelow, step as stepped, stage, laid, Slotted};
 use bits::from_bits;
 use index::CHAINS;
@@ -132,7 +133,7 @@ fn layout_after(p: Pushed, l: Layout) -> Layout
 
 // The next id after a push.
 fn next_after(p: Pushed, next: u32) -> u32
-    ensures { λ r. ⌜ r ≡ nextOf p next ⌝ }
+    ensures { λ r. ⌜ r ≡ nextAfter p next ⌝ }
 {
     match p {
         Pushed::Good(_, n) => n,

@@ -56,7 +56,8 @@ use denote.Struct.Declared as D
 use denote.Struct.Declared.{Declared, fields}
 use denote.Struct.Struct.{Plains, layout}
 use Rattle.layout.specs.Slots.{Shape}
-use Rattle.layout.specs.Push.{Push as Puts, PushLent, state, nextOf}
+use Rattle.layout.specs.Push.{Push as Puts, PushLent, state}
+use Rattle.layout.specs.Steps.{nextAfter}
 use Rattle.layout.proofs.Laws.{next-is}
 
 -- the contract of `next_of`
@@ -211,10 +212,10 @@ module _ (T : Declared) (laws : LL.Laws T) (plains : Plains (fields T)) (shape :
         owned ! P.the-row (Is P.the-row) (EL.makes P.the-type P′.the-plain 𝓤 H A) r _ is $ fjoin ! $ move ! (1 ∷ 0 ∷ []) $ join ! $ frame ! $ done !
 
     -- of what `next_of` ensures, the clause alone
-    said : (r : Pushed) (m : ℕ) → ent 𝓤 (ensured 𝓤 H A next.ended (next.clauses 𝓤 H A at-mem run) tt (r, (n, tt)) tt m) (fact 𝓤 (m ≡ nextOf r n))
-    said r m = exE 𝓤 _ (λ ws. snd∗ 𝓤 (sem 𝓤 H A (lasts next.ended tt (r, (n, tt)) ws)) (fact 𝓤 (m ≡ nextOf r n)))
+    said : (r : Pushed) (m : ℕ) → ent 𝓤 (ensured 𝓤 H A next.ended (next.clauses 𝓤 H A at-mem run) tt (r, (n, tt)) tt m) (fact 𝓤 (m ≡ nextAfter r n))
+    said r m = exE 𝓤 _ (λ ws. snd∗ 𝓤 (sem 𝓤 H A (lasts next.ended tt (r, (n, tt)) ws)) (fact 𝓤 (m ≡ nextAfter r n)))
 
-    exits : (r : Pushed) (w : Val) (m : ℕ) (is : List ℕ) (vs : List Float) → Puts (shape p) (state l n (xi .now) (xv .now)) r is vs → m ≡ nextOf r n → length is ≡ length (xi .now) → length vs ≡ length (xv .now)
+    exits : (r : Pushed) (w : Val) (m : ℕ) (is : List ℕ) (vs : List Float) → Puts (shape p) (state l n (xi .now) (xv .now)) r is vs → m ≡ nextAfter r n → length is ≡ length (xi .now) → length vs ≡ length (xv .now)
         → ent 𝓤 (⋆ 𝓤 H A (‵ (fobs γ (K.the-row .coded .code (count m))) ∷ ‵ (fbor κ (Body (mem K.the-row) b o γ)) ∷ ‵ (flft κ q) ∷ (‵ (flft κ₁ q₁) ⊛ ‵ (flft κ₂ q₂) ⊛ ‵ ftrue) ∷ ‵ (finally u32 (xi .name) is) ∷ ‵ (finally f64 (xv .name) vs) ∷ ‵ (P.the-row .own r (w ∷ [])) ∷ [])) (Post w)
     exits r w m is vs e e′ li lv =
         qed W (‵ (fobs γ (K.the-row .coded .code (count m))) ∷ ‵ (fbor κ (Body (mem K.the-row) b o γ)) ∷ ‵ (flft κ q) ∷ (‵ (flft κ₁ q₁) ⊛ ‵ (flft κ₂ q₂) ⊛ ‵ ftrue) ∷ ‵ (finally u32 (xi .name) is) ∷ ‵ (finally f64 (xv .name) vs) ∷ ‵ (P.the-row .own r (w ∷ [])) ∷ []) ∵
@@ -266,7 +267,7 @@ module _ (T : Declared) (laws : LL.Laws T) (plains : Plains (fields T)) (shape :
           nothing ! $ use1 W (raw (Next 𝓤 H A at-mem run .pre (to-next r w))) (goes-next (n-fits g) r w is) $
           calls-at ! fm (Next 𝓤 H A at-mem run) known-next (to-next r w) (and-then ! (load ! (from ! (stop !)) (look ! 20 refl)) (and-then ! (load ! (from ! (stop !)) (look ! 22 refl)) (no-more !))) (λ w′.
           use1 W (later (some (λ (m : ℕ). (‵ ftrue ⊛ ‵ (u32 .own m (w′ ∷ []))) ⊛ raw (ensured 𝓤 H A next.ended (next.clauses 𝓤 H A at-mem run) tt (r, (n, tt)) tt m)))) (id⊢ 𝓤 _) $ await ! tt $ pick ! (λ m.
-          split ! $ move ! (1 ∷ []) $ use1 W (raw (fact 𝓤 (m ≡ nextOf r n))) (said r m) $ heard ! (m ≡ nextOf r n) (λ e′. split ! $ drop ! $
+          split ! $ move ! (1 ∷ []) $ use1 W (raw (fact 𝓤 (m ≡ nextAfter r n))) (said r m) $ heard ! (m ≡ nextAfter r n) (λ e′. split ! $ drop ! $
           peeks ! u32 (Is u32) (shows 𝓤 H A u32) m (w′ ∷ []) (λ is′.
           land ! (from ! (stop !)) (init ! 10 refl (uint-lawful 𝓤 H A W w32 .typed m _ is′ .0)) $ rewrite ! 10 (λ (u : Val). ‵ (fat fullShare (tyInt w32) l₁₂ 0 u)) (ap only (is′ .0)) refl $ drop ! $
           -- [the result; the slices' tokens; the last values; the last ids; the counter's cell; what it owns; the open borrow; obs; auth; the locals]
