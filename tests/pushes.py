@@ -1,11 +1,22 @@
 #!/usr/bin/env python3
-"""What the program `pushes` prints, worked out from document 01's rules of the layout.
+"""The lines that the program `pushes` is asked, and those that it answers, worked out from document 01's rules of the layout.
 
-  pushes.py OUTPUT    write the lines, the same bytes every time
+  pushes.py FOLDER    write FOLDER/stdin and FOLDER/stdout, the same bytes every time
   pushes.py --check   hold the model against sentences of document 01
 
 A layout is three counts and a stage. Slots: all points (x, y), then circles (center x, center y, radius), then arcs
-(a.x, a.y, b.x, b.y, center.x, center.y). Refusals 20 to 25 are told by number, at place 0.
+(a.x, a.y, b.x, b.y, center.x, center.y). Refusals 20 to 25 are told by number, at place 0. The lines that are asked:
+
+  SAY ..            the rest of the line is printed
+  LAYOUT P C A S    the layout has these counts, and stands at stage S: 0 points, 1 circles, 2 arcs, 3 done
+  NEXT ID           the next id
+  ROOM N M          N ids and M values are lent
+  POINT V MORE      a push of a point, as CIRCLE and ARC are of theirs; its components rise by a quarter from V; MORE times again
+                    with V + 1, V + 2 and so on; the last answer is printed
+  DONE              the next stage
+  FIND I            the lookups and the readouts of the shapes with number I
+  IDS, VALUES       what is lent, from its first to its last
+  UP ID             how many ids rise by one from ID
 """
 import struct
 import sys
@@ -15,7 +26,7 @@ KINDS = ["point", "circle", "arc"]
 SIZES = [2, 3, 6]
 MOST = 4000
 LARGEST_ID = 4294967294
-SLOTS = 44000
+SLOTS = MOST * sum(SIZES)
 FAR = 2**64 - 1
 
 
@@ -127,49 +138,76 @@ def components(kind, v):
     return [v + i / 4 for i in range(SIZES[KINDS.index(kind)])]
 
 
-# ---- the runs
+# ---- the answers to lines
 
 
-def drawing():
-    yield "# drawing"
-    ids, values = [7] * 14, [9.5] * 14
-    counts, stage, next_id = [0, 0, 0], "points", 10
-    v = 1.0
-    for act in "point point circle done point circle arc done arc arc done arc done".split():
-        if act == "done":
+def answers(asks):
+    ids, values = [7] * SLOTS, [9.5] * SLOTS
+    counts, stage, next_id, n, m = [0, 0, 0], "points", 0, 0, 0
+    for ask in asks:
+        word, _, rest = ask.partition(" ")
+        numbers = [] if word == "SAY" else [int(number) for number in rest.split()]
+        if word == "SAY":
+            yield rest
+        elif word == "LAYOUT":
+            counts, stage = numbers[:3], STAGES[numbers[3]]
+        elif word == "NEXT":
+            next_id = numbers[0]
+        elif word == "ROOM":
+            n, m = numbers
+        elif word == "DONE":
             answer = done(counts, stage)
             yield show_done(answer)
             if not isinstance(answer, int):
                 counts, stage = answer
-            continue
-        answer = push(counts, stage, act, next_id, ids, values, components(act, v))
-        yield show_push(act, answer)
-        if not isinstance(answer, int):
-            counts, stage, next_id = answer
-        v += 2.0
-    yield " ".join(["ids"] + [str(i) for i in ids])
-    yield " ".join(["values"] + [bits(x) for x in values])
-    for i in (0, 1, 2, FAR):
-        yield from show_shapes(counts, stage, ids, values, i)
-    yield "# the slices just long enough, and short by one"
-    for n, i in ((13, 0), (12, 0), (12, 2)):
-        yield from show_shapes(counts, stage, ids[:n], values[:n], i)
+        elif word.lower() in KINDS:
+            lent, lent_values = ids[:n], values[:m]
+            for more in range((numbers + [0])[1] + 1):
+                answer = push(counts, stage, word.lower(), next_id, lent, lent_values, components(word.lower(), float(numbers[0] + more)))
+                if not isinstance(answer, int):
+                    counts, stage, next_id = answer
+            ids[:n], values[:m] = lent, lent_values
+            yield show_push(word.lower(), answer)
+        elif word == "FIND":
+            yield from show_shapes(counts, stage, ids[:n], values[:m], numbers[0])
+        elif word == "IDS":
+            yield " ".join(["ids"] + [str(i) for i in ids[:n]])
+        elif word == "VALUES":
+            yield " ".join(["values"] + [bits(x) for x in values[:m]])
+        elif word == "UP":
+            yield f"rising {next((i for i, x in enumerate(ids[:n]) if x != numbers[0] + i), n)}"
+        else:
+            sys.exit("no such line: " + ask)
+
+
+# ---- the lines that are asked
+
+
+def layout(counts, stage):
+    return "LAYOUT " + " ".join(map(str, counts)) + f" {STAGES.index(stage)}"
+
+
+def drawing():
+    yield from ("SAY # drawing", "NEXT 10", "ROOM 14 14")
+    yield from ("POINT 1", "POINT 3", "CIRCLE 5", "DONE", "POINT 7", "CIRCLE 9", "ARC 11", "DONE", "ARC 13", "ARC 15", "DONE", "ARC 17", "DONE")
+    yield from ("IDS", "VALUES", "FIND 0", "FIND 1", "FIND 2", f"FIND {FAR}")
+    yield "SAY # the slices just long enough, and short by one"
+    yield from ("ROOM 13 13", "FIND 0", "ROOM 12 12", "FIND 0", "FIND 2")
 
 
 def alone(counts, stage, kind, next_id, n, m):
-    """A push over n ids and m values."""
-    return show_push(kind, push(counts, stage, kind, next_id, [0] * n, [0.0] * m, components(kind, 1.0)))
+    """A push to a layout, with n ids and m values lent."""
+    yield from (layout(counts, stage), f"NEXT {next_id}", f"ROOM {n} {m}", f"{kind.upper()} 1")
 
 
 def refusals_of(counts, stage):
     for kind, next_id in (("point", 0), ("circle", 0), ("arc", LARGEST_ID + 1)):
-        yield alone(counts, stage, kind, next_id, SLOTS, SLOTS)
-    yield show_done(done(counts, stage))
-    yield from show_shapes(counts, stage, [], [], 0)
+        yield from alone(counts, stage, kind, next_id, SLOTS, SLOTS)
+    yield from (layout(counts, stage), "DONE", "ROOM 0 0", "FIND 0")
 
 
 def layouts():
-    yield "# a count over the most"
+    yield "SAY # a count over the most"
     for counts, stage in (
         ([4001, 0, 0], "points"),
         ([0, 4001, 0], "circles"),
@@ -177,7 +215,7 @@ def layouts():
         ([FAR, FAR, FAR], "done"),
     ):
         yield from refusals_of(counts, stage)
-    yield "# shapes before their stage, and the largest layout"
+    yield "SAY # shapes before their stage, and the largest layout"
     for counts, stage in (
         ([0, 1, 0], "points"),
         ([0, 0, 1], "points"),
@@ -188,15 +226,15 @@ def layouts():
 
 
 def stages():
-    yield "# stages"
+    yield "SAY # stages"
     for stage in STAGES:
         for kind in KINDS:
-            yield alone([0, 0, 0], stage, kind, 0, 6, 6)
-        yield show_done(done([0, 0, 0], stage))
+            yield from alone([0, 0, 0], stage, kind, 0, 6, 6)
+        yield from (layout([0, 0, 0], stage), "DONE")
 
 
 def bounds():
-    yield "# room"
+    yield "SAY # room"
     for counts, stage, kind, end in (
         ([3, 0, 0], "points", "point", 8),
         ([3, 2, 0], "circles", "circle", 15),
@@ -204,38 +242,27 @@ def bounds():
         ([4000, 4000, 3999], "arcs", "arc", SLOTS),
     ):
         for n, m in ((end, end), (end - 1, end), (end, end - 1)):
-            yield alone(counts, stage, kind, 0, n, m)
-    yield "# the last ids"
+            yield from alone(counts, stage, kind, 0, n, m)
+    yield "SAY # the last ids"
     for stage, kind, size in zip(STAGES, KINDS, SIZES):
         last = LARGEST_ID + 1 - size
         for next_id, n in ((last, 6), (last + 1, 6), (LARGEST_ID + 1, 6), (LARGEST_ID + 1, 1)):
-            yield alone([0, 0, 0], stage, kind, next_id, n, n)
-    yield "# full"
-    yield alone([4000, 0, 0], "points", "point", 0, SLOTS, SLOTS)
-    yield alone([0, 4000, 0], "circles", "circle", 0, SLOTS, SLOTS)
-    yield alone([0, 0, 4000], "arcs", "arc", LARGEST_ID + 1, 0, 0)
-    yield alone([0, 0, 4000], "arcs", "point", LARGEST_ID + 1, 0, 0)
+            yield from alone([0, 0, 0], stage, kind, next_id, n, n)
+    yield "SAY # full"
+    yield from alone([4000, 0, 0], "points", "point", 0, SLOTS, SLOTS)
+    yield from alone([0, 4000, 0], "circles", "circle", 0, SLOTS, SLOTS)
+    yield from alone([0, 0, 4000], "arcs", "arc", LARGEST_ID + 1, 0, 0)
+    yield from alone([0, 0, 4000], "arcs", "point", LARGEST_ID + 1, 0, 0)
 
 
 def most():
-    yield "# the most shapes"
-    ids, values = [0] * SLOTS, [0.0] * SLOTS
-    counts, stage, next_id = [0, 0, 0], "points", 5
+    yield from ("SAY # the most shapes", layout([0, 0, 0], "points"), "NEXT 5", f"ROOM {SLOTS} {SLOTS}")
     for kind in KINDS:
-        for i in range(MOST + 1):
-            answer = push(counts, stage, kind, next_id, ids, values, components(kind, float(i)))
-            if not isinstance(answer, int):
-                counts, stage, next_id = answer
-        yield show_push(kind, answer)
-        counts, stage = done(counts, stage)
-        yield show_done((counts, stage))
-    rising = next((i for i, x in enumerate(ids) if x != 5 + i), len(ids))
-    yield f"rising {rising}"
-    for i in (0, MOST - 1, MOST):
-        yield from show_shapes(counts, stage, ids, values, i)
+        yield from (f"{kind.upper()} 0 {MOST}", "DONE")
+    yield from ("UP 5", "FIND 0", f"FIND {MOST - 1}", f"FIND {MOST}")
 
 
-def lines():
+def asked():
     for part in (drawing, layouts, stages, bounds, most):
         yield from part()
 
@@ -245,7 +272,7 @@ def lines():
 
 def check():
     assert 2 * MOST + 3 * MOST + 6 * MOST == SLOTS
-    text = list(lines())
+    text = list(answers(asked()))
     # a refusal prints its number and the place 0, and each number from 20 to 25 is met
     numbers = {line.split()[-2] for line in text if "refused" in line}
     assert numbers == {"20", "21", "22", "23", "24", "25"}, numbers
@@ -265,7 +292,9 @@ if __name__ == "__main__":
     if sys.argv[1:] == ["--check"]:
         check()
     elif len(sys.argv) == 2:
-        with open(sys.argv[1], "w") as out:
-            out.write("".join(line + "\n" for line in lines()))
+        asks = list(asked())
+        for name, lines in (("stdin", asks), ("stdout", answers(asks))):
+            with open(sys.argv[1] + "/" + name, "w") as out:
+                out.write("".join(line + "\n" for line in lines))
     else:
         sys.exit(__doc__)

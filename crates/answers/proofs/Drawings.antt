@@ -11,9 +11,14 @@ use Rattle.refusal.specs.First.{Answer, passed, refused}
 use Rattle.layout.specs.declared.Layout.{Layout}
 use Rattle.layout.specs.Push.{onward}
 use Rattle.layout.proofs.Onward.{length-onward, getD-onward}
+use Rattle.refusal.specs.declared.Refusal.{Refusal}
+use Rattle.refusal.specs.Refusal.{refusal}
+use Rattle.record.specs.Kinds.{firstRule, lastRule}
+use Rattle.record.specs.Record.{mostRecords, longestText}
 use Rattle.record.specs.Decode.{noRecord}
 use Rattle.record.specs.Entry.{Entry, noEntry, entryAt, upTo, entryOf}
 use Rattle.record.specs.Formed.{entries}
+use Rattle.record.proofs.UpTo.{up-to-same, up-to-map}
 use Rattle.reader.specs.Page.{recordsIn, linesOf}
 use Rattle.reader.proofs.Written.{written-fits}
 use Rattle.index.specs.Labels.{kindNo}
@@ -38,7 +43,6 @@ use Rattle.lines.specs.Drawn.{loweredLine, slotLine, rowLine}
 use Rattle.lines.proofs.RowBack.{row-printed}
 use Rattle.answers.specs.Answers.{slotLines, drawingLines}
 use Rattle.answers.specs.Steps.{Read, slotsBy, loweredBy}
-use Rattle.answers.proofs.Joined.{up-to-same, up-to-map}
 use Rattle.answers.proofs.Room.{slots-most, rules-most, enough}
 
 -- ---- rows
@@ -50,7 +54,7 @@ noRow = record { kind = 0; third = 0; ids = []; bits = 0 }
 -- the lines of rows that fit their bytes, from those bytes
 module _ (rs : List Row) (fit : Each RowFits rs) where
   sizes : Each (λ (r : Row). length (encodeRow r) ≡ rowBytes) rs
-  sizes = each-map RowFits (λ (r : Row). length (encodeRow r) ≡ rowBytes) (λ r h. length-row r (h .few)) rs fit
+  sizes = each-map RowFits (λ (r : Row). length (encodeRow r) ≡ rowBytes) (λ r h. length-row r) rs fit
 
   pub rows-length : length (encodeRows rs) ≡ length rs * rowBytes
   rows-length = length-flat encodeRow rowBytes rs sizes
@@ -67,7 +71,7 @@ module _ (rs : List Row) (fit : Each RowFits rs) where
   rows-shown = rw rows-count (up-to-same (length rs) (λ k. rowLine (decodeRow (rowOf (encodeRows rs) k))) (λ k. rowLine (getD rs k noRow)) row-shown ∙ up-to-map rs noRow rowLine)
 
 -- the rows of a page's drawing fit their bytes
-module _ (s : List ℕ) (short : length s ≤ 32768) (w : Fine (linesOf s)) (left : length (slots (linesOf s)) ≤ 10800) where
+module _ (s : List ℕ) (short : length s ≤ longestText) (w : Fine (linesOf s)) (left : length (slots (linesOf s)) ≤ 10800) where
   bits-fit : (i : ℕ) → i < length (linesOf s) → entryAt (linesOf s) i .x < 2 ^ 64
   unfolding entryOf
   bits-fit i h =
@@ -89,8 +93,8 @@ module _ (s : List ℕ) (short : length s ≤ 32768) (w : Fine (linesOf s)) (lef
       (picks-each _ _ _ rules-pick (λ (e : Entry). RowFits (rowFor (linesOf s) 0 e)) (linesOf s) noEntry
       (λ j g t.
       record {
-        few = ids-few (linesOf s) w 0 j g (says-within 4 23 (kindNo (linesOf s) j) .so t);
-        ids-fit = λ q b. id-fits (entryAt (linesOf s) j) q;
+        few = ids-few (linesOf s) w 0 j g (says-within firstRule lastRule (kindNo (linesOf s) j) .so t);
+        ids-fit = λ q. id-fits (entryAt (linesOf s) j) q;
         bits-fit = bits-fit j g;
       }))
 
@@ -124,7 +128,7 @@ pub there : {A : Type 0} (n : ℕ) (l : List A) → length (take n l) ≡ n → 
 there n l e = omega (arith, e, length-take n l)
 
 module _ {s bs : List ℕ} (read : Read s bs) {told : Lowered} {ids : List ℕ} {values : List Float} {rows : List ℕ} (call : Lowers (entries s bs) 0 ids₀ values₀ rows₀ told ids values rows) where
-  few : length (linesOf s) ≤ 1800
+  few : length (linesOf s) ≤ mostRecords
   few = omega (arith, read .few, length-map (recordsIn s) (entryOf s))
 
   suffices : Enough (linesOf s) lent
@@ -136,9 +140,9 @@ module _ {s bs : List ℕ} (read : Read s bs) {told : Lowered} {ids : List ℕ} 
   on-lines = rw (read .entries-are) at call
 
   -- a refusal is the check's
-  pub refused-lines : {number place : ℕ} → told ≡ L.Refused number place → drawingLines (checkOf (linesOf s)) (linesOf s) ≡ loweredLine told
+  pub refused-lines : {r : Refusal} → told ≡ L.Refused r → drawingLines (checkOf (linesOf s)) (linesOf s) ≡ loweredLine told
   unfolding loweredLine
-  refused-lines {number} {place} e = go (checkOf (linesOf s)) refl
+  refused-lines {r} e = go (checkOf (linesOf s)) refl
     where
       go : (a : Answer Fault) → checkOf (linesOf s) ≡ a → drawingLines a (linesOf s) ≡ loweredLine told
       go passed h =
@@ -154,7 +158,7 @@ module _ {s bs : List ℕ} (read : Read s bs) {told : Lowered} {ids : List ℕ} 
         go : (a : Answer Fault) → checkOf (linesOf s) ≡ a → a ≡ passed
         go passed h = refl
         go (refused f i) h =
-            let g : told ≡ L.Refused (numberOf f) i = on-lines .answer ∙ lower-refused (linesOf s) lent f i h in
+            let g : told ≡ L.Refused (refusal (numberOf f) i) = on-lines .answer ∙ lower-refused (linesOf s) lent f i h in
             let z : _≡_ {A = ℕ} 0 1 = cc in
             absurd (omega arith)
 
@@ -172,14 +176,14 @@ module _ {s bs : List ℕ} (read : Read s bs) {told : Lowered} {ids : List ℕ} 
     count-is : count ≡ length (rulesOf (linesOf s))
     count-is = cc (told-is, e)
 
-    pub count-most : count ≤ 1800
+    pub count-most : count ≤ mostRecords
     count-most = omega (arith, count-is, rules-most (linesOf s) few)
 
     fits : Each RowFits (rowsOf (linesOf s) 0)
     fits = rows-fit s (read .short) (fine (linesOf s) passes) (slots-most (linesOf s) few)
 
     written-length : length (encodeRows (rowsOf (linesOf s) 0)) ≡ count * rowBytes
-    written-length = omega (arith, rows-length (rowsOf (linesOf s) 0) fits, count-rows (linesOf s) (fine (linesOf s) passes) 0, count-is)
+    written-length = omega (arith, rows-length (rowsOf (linesOf s) 0) fits, count-rows (linesOf s) 0, count-is)
 
     -- what was written
     ids-taken : take next ids ≡ onward 0 (length (slots (linesOf s)))

@@ -6,22 +6,23 @@ use mathlib.Core.List.{List, _++_, map, map-map}
 use Prim.Native.Nat.{ℕ, _+_, _*_, _≤_, _<_}
 use native.Mathlib.Omega.{arith}
 use lib.ListN.{length, getD, take, length-append}
-use Rattle.record.specs.Record.{recordBytes}
+use Rattle.refusal.specs.declared.Refusal.{Refusal}
+use Rattle.record.specs.Record.{recordBytes, mostRecords, recordRoom}
 use Rattle.record.specs.Decode.{countOf, decodeAt, noRecord}
 use Rattle.record.specs.Entry.{upTo, entryOf}
 use Rattle.record.proofs.Back.{count-all}
+use Rattle.record.proofs.UpTo.{up-to-same, up-to-map}
 use Rattle.reader.specs.declared.Reading.{Reading}
 use Rattle.reader.specs.declared.Reading.the-variants.{Good, Refused}
-use Rattle.reader.specs.Page.{mostRecords, problemOf, readingOf, recordsIn, linesOf, Reads}
+use Rattle.reader.specs.Page.{problemOf, readingOf, recordsIn, linesOf, Reads}
 use Rattle.reader.proofs.Written.{read-back}
 use Rattle.reader.proofs.WellRead.{page-read, bytes-read, entries-read}
 use Rattle.rail.specs.Words.{joined}
 use Rattle.lines.specs.Lines.{refusedLine, firstLine, lineOf}
 use Rattle.answers.specs.declared.Way.{Way}
 use Rattle.answers.specs.declared.Way.the-variants.{Plain, Whole, Check, Rows}
-use Rattle.answers.specs.Answers.{recordRoom, listed, listingOf, checkingOf, loweringOf, answerOf}
+use Rattle.answers.specs.Answers.{listed, listingOf, checkingOf, loweringOf, answerOf}
 use Rattle.answers.specs.Steps.{Read, wholeBy, toldBy, listedBy}
-use Rattle.answers.proofs.Joined.{up-to-same, up-to-map}
 
 -- ---- what a good reading wrote
 
@@ -73,11 +74,11 @@ module _ (way : Way) {s d d′ : List ℕ} {reading : Reading} (r : Reads (whole
   told = sym (rw room at (r .told))
 
   -- a refusal, whatever is asked
-  pub refused-answer : {number place : ℕ} → reading ≡ Refused number place → answerOf way s ≡ firstLine reading
+  pub refused-answer : {refusal : Refusal} → reading ≡ Refused refusal → answerOf way s ≡ firstLine reading
   unfolding firstLine answerOf listingOf checkingOf loweringOf
-  refused-answer {number} {place} e = rw e (by-way way (told ∙ e))
+  refused-answer {refusal} e = rw e (by-way way (told ∙ e))
     where
-      by-way : (w : Way) → readingOf (wholeBy w) s recordRoom ≡ Refused number place → answerOf w s ≡ refusedLine number place
+      by-way : (w : Way) → readingOf (wholeBy w) s recordRoom ≡ Refused refusal → answerOf w s ≡ refusedLine refusal
       by-way Plain h = rw h
       by-way Whole h = rw h
       by-way Check h = rw h

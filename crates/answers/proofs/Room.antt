@@ -8,8 +8,9 @@ use native.Mathlib.Omega.{arith}
 use lib.Dec.{eqb}
 use lib.ListN.{length}
 use borrow.Author.Tests.{eqb-true}
+use Rattle.record.specs.Kinds.{firstRule, lastRule}
+use Rattle.record.specs.Record.{mostRecords}
 use Rattle.record.specs.Entry.{Entry}
-use Rattle.record.specs.Formed.{most}
 use Rattle.index.specs.Labels.{kindNo, within}
 use Rattle.drawing.specs.Check.{countBelow}
 use Rattle.lowering.specs.Slots.{slots}
@@ -36,12 +37,12 @@ unfolding countBelow
 shapes-le kinds zero = omega arith
 shapes-le kinds (suc n) = omega (arith, shapes-le kinds n, once (kinds n))
 
-module _ (es : List Entry) (few : length es ≤ most) where
+module _ (es : List Entry) (few : length es ≤ mostRecords) where
   pub slots-most : length (slots es) ≤ 10800
   slots-most = omega (arith, few, slot-count es, shapes-le (kindNo es) (length es))
 
-  pub rules-most : length (rulesOf es) ≤ 1800
-  rules-most = omega (arith, few, rules-all es, count-le (kindNo es) 4 23 (length es))
+  pub rules-most : length (rulesOf es) ≤ mostRecords
+  rules-most = omega (arith, few, rules-all es, count-le (kindNo es) firstRule lastRule (length es))
 
   pub enough : (room : Room) → room .next ≡ 0 → 10800 ≤ room .ids → 10800 ≤ room .values → 79200 ≤ room .row-bytes → Enough es room
   enough room n i v r =

@@ -4,7 +4,9 @@ use mathlib.Core.List.{List, _++_, map}
 use Prim.Native.Nat.{ℕ}
 use lib.ListN.{length, getD}
 use lib.Ieee.{nan}
+use Rattle.refusal.specs.Refusal.{refusal}
 use Rattle.refusal.specs.First.{Answer, passed, refused}
+use Rattle.record.specs.Record.{recordRoom}
 use Rattle.record.specs.Entry.{Entry, upTo}
 use Rattle.reader.specs.declared.Reading.{Reading}
 use Rattle.reader.specs.declared.Reading.the-variants.{Good, Refused}
@@ -20,14 +22,10 @@ use Rattle.lines.specs.Drawn.{checkedLine, loweredLine, slotLine, rowLine}
 use Rattle.answers.specs.declared.Way.{Way}
 use Rattle.answers.specs.declared.Way.the-variants.{Plain, Whole, Check, Rows}
 
--- room for the records of a page: 1,800 of 28 bytes
-abbrev pub recordRoom : ℕ
-recordRoom = 50400
-
 -- a page that is refused is answered with its refusal, whatever is asked
 abbrev pub answerTo : Reading → List ℕ → List ℕ
 answerTo (Good instructions guesses end) told = told
-answerTo (Refused number place) told = refusedLine number place
+answerTo (Refused r) told = refusedLine r
 
 -- ---- the listing
 
@@ -53,7 +51,7 @@ slotLines es = upTo (length (slots es)) (λ j. slotLine j (getD (valuesOf es) j 
 
 -- a drawing's first fault; or how many shapes it has, a line for each slot, and a line for each row
 abbrev pub drawingLines : Answer Fault → List Entry → List ℕ
-drawingLines (refused fault i) es = refusedLine (numberOf fault) i
+drawingLines (refused fault i) es = refusedLine (refusal (numberOf fault) i)
 drawingLines passed es =
     loweredLine (lowered.Good (layoutOf es) (length (slots es)) (length (rulesOf es))) ++ joined (slotLines es) ++ joined (map rowLine (rowsOf es 0))
 

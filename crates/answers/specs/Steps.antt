@@ -5,12 +5,12 @@ use mathlib.Core.List.{List, _++_}
 use Prim.Native.Nat.{ℕ, _/_, _≤_}
 use lib.ListN.{length, getD}
 use lib.Ieee.{Float, nan}
-use Rattle.record.specs.Record.{encodeAll}
+use Rattle.record.specs.Record.{mostRecords, longestText, encodeAll}
 use Rattle.record.specs.Decode.{countOf, decodeAt}
 use Rattle.record.specs.Entry.{upTo, entryOf}
 use Rattle.record.specs.Formed.{entries}
 use Rattle.reader.specs.declared.Reading.{Reading}
-use Rattle.reader.specs.Page.{longestText, mostRecords, recordsIn, linesOf}
+use Rattle.reader.specs.Page.{recordsIn, linesOf}
 use Rattle.drawing.specs.Check.{checkOf, checkedOf}
 use Rattle.lowering.specs.declared.Lowered.{Lowered}
 use Rattle.row.specs.Row.{rowBytes, decodeRow, rowOf}

@@ -10,8 +10,8 @@ ghost use Rattle.rail.specs.Steps.{Adds};
 ghost use Rattle.answers.specs.Answers.{drawingLines};
 ghost use Rattle.answers.specs.Steps.{Read, slotsBy, loweredBy};
 use lowering::Lowered;
-use row::ROW;
 use rail::Place;
+use row::ROW;
 
 // Room for six slots for each of 1,800 records, and for a row of 44 bytes for each.
 const SLOTS: usize = 10_800;

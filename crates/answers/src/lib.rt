@@ -11,10 +11,8 @@ ghost use Rattle.answers.specs.Answers.{listingOf, checkingOf, loweringO
 ghost use Rattle.answers.specs.Steps.{wholeBy, toldBy, Read};
 use rail::Place;
 use reader::Reading;
+use record::ROOM;
 use record::SIZE;
-
-// Room for the records of a page: 1,800 of 28 bytes.
-const ROOM: usize = 50_400;
 
 // What is asked: the listing by the plain reading or by the whole one, the check, or the slots and rows.
 pub enum Way {

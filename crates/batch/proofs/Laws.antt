@@ -29,7 +29,7 @@ none-told : (t : Bool) (k : ℕ) (x : Stand) → x ≡ cond t (At k) Nothing →
 none-told false k x e h = refl
 none-told true k (At n) e h = absurd (⊎-elim (λ (z : 0 ≡ 1). omega arith) (λ (z : 0 ≡ 2). omega arith) h)
 none-told true k Nothing e h = absurd (never (cc))
-none-told true k (Refused n p) e h = absurd (never (cc))
+none-told true k (Refused r) e h = absurd (never (cc))
 
 module _ (s w : List ℕ) (x : Stand) (e : x ≡ wordOn s (At 0) w) where
   pub word-stands : (n : ℕ) → x ≡ At n → true ≡ starts w s

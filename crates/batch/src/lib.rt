@@ -1,8 +1,10 @@
-// The header line of a batch's block: what is asked of the text that follows, and its length.
+// The header line of a batch's block: what is asked of the text that follows, and its length. `line` has what other lines are read by.
 ghost use mathlib.Core.Path.{_≡_};
 ghost use Rattle.text.specs.Text.{starts};
 ghost use Rattle.batch.specs.Header.{oneMore, digitsAt, sizeOf, headerOf};
 use text::Stand;
+
+pub mod line;
 
 // The most bytes of a text, and what stands for any number that is larger.
 pub const MOST: usize = 65_536;

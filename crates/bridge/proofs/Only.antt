@@ -10,7 +10,7 @@ use Rattle.ground.proofs.Determined.{Settled, by-equation}
 use Rattle.reader.specs.Page.{Reads}
 use Rattle.record.specs.Entry.{Entry}
 use Rattle.lowering.specs.Lower.{Lowers}
-use Rattle.layout.specs.declared.Kind.{Kind}
+use Rattle.layout.specs.declared.ShapeKind.{ShapeKind}
 use Rattle.layout.specs.Push.{State, Fills}
 use Rattle.bridge.specs.Told.{Told, Tells, readingTold, loweredTold, pushedTold}
 use Rattle.bridge.proofs.pages.hunposeto_read.Kinds as read-kinds
@@ -124,7 +124,7 @@ lower-only κs a x y v w p q =
 
 -- ---- pushes
 
-push-told-only : (k : Kind) (vs : List Float) (s : State) (c d : ℕ) (ids ids′ : List ℕ) (values values′ : List Float) (m n : List ℕ)
+push-told-only : (k : ShapeKind) (vs : List Float) (s : State) (c d : ℕ) (ids ids′ : List ℕ) (values values′ : List Float) (m n : List ℕ)
     → Tells (λ x. Fills k vs s x ids values) pushedTold c m → Tells (λ x. Fills k vs s x ids′ values′) pushedTold d n → (c ≡ d) × (ids ≡ ids′) × (values ≡ values′) × (m ≡ n)
 push-told-only k vs s c d ids ids′ values values′ m n p q =
     let both = same-told pushedTold c d m n p q (by-equation (p .promised .answer) (q .promised .answer)) in

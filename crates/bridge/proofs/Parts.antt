@@ -10,10 +10,9 @@ use lib.ListN.{length, take, drop}
 use lib.Seq.{take-all}
 use borrow.Author.Tests.{ne-eqb, lt-ltb, lt-leb}
 use Rattle.refusal.proofs.Says.{says-and, says-lt}
-use Rattle.record.specs.Record.{recordBytes}
+use Rattle.record.specs.Record.{recordBytes, labelPlaces}
 use Rattle.record.specs.Decode.{decode, decodeAt}
-use Rattle.record.specs.Entry.{part, startOf, lenOf, named}
-use Rattle.record.specs.Sound.{labelPlaces}
+use Rattle.record.specs.Entry.{part, viewOf, named}
 use Rattle.record.specs.Ask.{labelOf}
 use Rattle.record.proofs.Agree.{says-good}
 use Rattle.layout.specs.Refusals.{impossible}
@@ -42,7 +41,7 @@ one-record b e = rw (e, take-all recordBytes b (omega (arith, e))) refl
 told-part : (text b : List ℕ) (q : ℕ) (t : Bool) → (t ≡ true → (length b ≡ recordBytes) × (q < labelPlaces))
     → part text (labelStart b q (length (cond t (named text (decode b) q) []))) (length (cond t (named text (decode b) q) [])) ≡ cond t (named text (decode b) q) []
 told-part text b q false f = refl
-told-part text b q true f = rw (one-record b (f refl .0), lt-leb labelPlaces q (f refl .1)) (part-again text (startOf (decode b) q) (lenOf (decode b) q) (named text (decode b) q) refl)
+told-part text b q true f = rw (one-record b (f refl .0), lt-leb labelPlaces q (f refl .1)) (part-again text (viewOf (decode b) q .start) (viewOf (decode b) q .len) (named text (decode b) q) refl)
 
 -- the part of the text that is told of a label is the label
 pub label-there : (text b : List ℕ) (q : ℕ) → part text (labelStart b q (length (labelOf text b q))) (length (labelOf text b q)) ≡ labelOf text b q

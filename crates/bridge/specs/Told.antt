@@ -8,8 +8,8 @@ use lib.Dec.{eqb, leb}
 use lib.ListN.{length}
 use lib.Ieee.{Float, binary64, toBits}
 use Rattle.record.specs.Decode.{decodeAt}
-use Rattle.record.specs.Entry.{Label, startOf}
-use Rattle.record.specs.Sound.{labelPlaces}
+use Rattle.record.specs.Entry.{Label, viewOf}
+use Rattle.record.specs.Record.{labelPlaces}
 use Rattle.reader.specs.declared.Reading.{Reading}
 use Rattle.reader.specs.declared.Reading.the-variants as reading
 use Rattle.drawing.specs.declared.Checked.{Checked}
@@ -21,7 +21,7 @@ use Rattle.record.specs.declared.ask.Asked.the-variants as asked
 use Rattle.lowering.specs.declared.Lowered.{Lowered}
 use Rattle.lowering.specs.declared.Lowered.the-variants as lowered
 use Rattle.layout.specs.declared.Layout.{Layout}
-use Rattle.layout.specs.declared.Refusal.{Refusal}
+use Rattle.refusal.specs.declared.Refusal.{Refusal}
 use Rattle.layout.specs.declared.Pushed.{Pushed}
 use Rattle.layout.specs.declared.Pushed.the-variants as pushed
 use Rattle.layout.specs.declared.Stepped.{Stepped}
@@ -39,7 +39,6 @@ use Rattle.layout.specs.declared.CircleRead.the-variants as CR
 use Rattle.layout.specs.declared.ArcRead.{ArcRead}
 use Rattle.layout.specs.declared.ArcRead.the-variants as AR
 use Rattle.layout.specs.Slots.{stageNumber}
-use Rattle.layout.specs.Refusals.{number}
 
 -- ---- codes and numbers
 
@@ -57,12 +56,8 @@ abbrev pub good : List ℕ → Told
 good parts = record { code = 0; parts = parts }
 
 -- a refusal, by its number and place
-abbrev pub refused : ℕ → ℕ → Told
-refused number place = record { code = number; parts = at place }
-
--- a refusal of a layout, whose place is 0
-abbrev pub not-laid : Refusal → Told
-not-laid r = refused (number r) 0
+abbrev pub refused : Refusal → Told
+refused r = record { code = r .number; parts = at (r .place) }
 
 -- a code and numbers that tell an answer which the library's promise allows
 pub record Tells {A : Type 0} (promise : A → Type 0) (told : A → Told) (code : ℕ) (parts : List ℕ) : Type 0 where
@@ -76,12 +71,12 @@ pub record Tells {A : Type 0} (promise : A → Type 0) (told : A → Told) (code
 -- a reading: how many instructions and guesses there are, and where it stopped
 abbrev pub readingTold : Reading → Told
 readingTold (reading.Good instructions guesses end) = good (instructions ∷ guesses ∷ end ∷ 0 ∷ 0 ∷ 0 ∷ [])
-readingTold (reading.Refused number place) = refused number place
+readingTold (reading.Refused r) = refused r
 
 -- a check: how many points, circles, arcs and rows there are
 abbrev pub checkedTold : Checked → Told
 checkedTold (checked.Passed points circles arcs rows) = good (points ∷ circles ∷ arcs ∷ rows ∷ 0 ∷ 0 ∷ [])
-checkedTold (checked.Refused number place) = refused number place
+checkedTold (checked.Refused r) = refused r
 
 -- a layout by its counts and the number of its stage, and two numbers more
 abbrev pub layoutParts : Layout → ℕ → ℕ → List ℕ
@@ -90,7 +85,7 @@ layoutParts l e f = l .points ∷ l .circles ∷ l .arcs ∷ stageNumber (l .sta
 -- a lowering: the layout, the next id, and how many rows there are
 abbrev pub loweredTold : Lowered → Told
 loweredTold (lowered.Good layout next rows) = good (layoutParts layout next rows)
-loweredTold (lowered.Refused number place) = refused number place
+loweredTold (lowered.Refused r) = refused r
 
 -- the bits of a number
 abbrev pub bitsOf : Float → ℕ
@@ -98,7 +93,7 @@ bitsOf x = toBits binary64 x
 
 -- where label q of a record starts, given its length; an empty one starts at 0
 abbrev pub labelStart : List ℕ → ℕ → ℕ → ℕ
-labelStart b q len = cond (eqb len 0) 0 (cond (leb labelPlaces q) 0 (startOf (decodeAt b 0) q))
+labelStart b q len = cond (eqb len 0) 0 (cond (leb labelPlaces q) 0 (viewOf (decodeAt b 0) q .start))
 
 -- label q of a record: its start and its length
 abbrev pub labelTold : List ℕ → ℕ → Label → Told
@@ -112,46 +107,46 @@ angleParts (Radians x) = 2 ∷ bitsOf x ∷ 0 ∷ 0 ∷ 0 ∷ 0 ∷ []
 -- what a record that is asked for its angle tells
 abbrev pub askedTold : Asked → Told
 askedTold (asked.Angle a) = good (angleParts a)
-askedTold (asked.Refused number place) = refused number place
+askedTold (asked.Refused r) = refused r
 
 -- ---- layouts
 
 -- a push: the layout and the next id
 abbrev pub pushedTold : Pushed → Told
 pushedTold (pushed.Good layout next) = good (layoutParts layout next 0)
-pushedTold (pushed.Refused r) = not-laid r
+pushedTold (pushed.Refused r) = refused r
 
 -- a step to the next stage
 abbrev pub steppedTold : Stepped → Told
 steppedTold (stepped.Good layout) = good (layoutParts layout 0 0)
-steppedTold (stepped.Refused r) = not-laid r
+steppedTold (stepped.Refused r) = refused r
 
 -- the ids of a point: of x and y
 abbrev pub pointIdsTold : PointIds → Told
 pointIdsTold (PI.Found v) = good (v .x ∷ v .y ∷ 0 ∷ 0 ∷ 0 ∷ 0 ∷ [])
-pointIdsTold (PI.Refused r) = not-laid r
+pointIdsTold (PI.Refused r) = refused r
 
 -- the ids of a circle: of the center's x and y, and of the radius
 abbrev pub circleIdsTold : CircleIds → Told
 circleIdsTold (CI.Found v) = good (v .center .x ∷ v .center .y ∷ v .radius ∷ 0 ∷ 0 ∷ 0 ∷ [])
-circleIdsTold (CI.Refused r) = not-laid r
+circleIdsTold (CI.Refused r) = refused r
 
 -- the ids of an arc: of x and y of its start, its end and its center
 abbrev pub arcIdsTold : ArcIds → Told
 arcIdsTold (AI.Found v) = good (v .start .x ∷ v .start .y ∷ v .end .x ∷ v .end .y ∷ v .center .x ∷ v .center .y ∷ [])
-arcIdsTold (AI.Refused r) = not-laid r
+arcIdsTold (AI.Refused r) = refused r
 
 -- a point read out: the bits of x and y
 abbrev pub pointTold : PointRead → Told
 pointTold (PR.Found p) = good (bitsOf (p .x) ∷ bitsOf (p .y) ∷ 0 ∷ 0 ∷ 0 ∷ 0 ∷ [])
-pointTold (PR.Refused r) = not-laid r
+pointTold (PR.Refused r) = refused r
 
 -- a circle read out: the bits of the center's x and y, and of the radius
 abbrev pub circleTold : CircleRead → Told
 circleTold (CR.Found c) = good (bitsOf (c .center .x) ∷ bitsOf (c .center .y) ∷ bitsOf (c .radius) ∷ 0 ∷ 0 ∷ 0 ∷ [])
-circleTold (CR.Refused r) = not-laid r
+circleTold (CR.Refused r) = refused r
 
 -- an arc read out: the bits of x and y of a, b and the center
 abbrev pub arcTold : ArcRead → Told
 arcTold (AR.Found a) = good (bitsOf (a .a .x) ∷ bitsOf (a .a .y) ∷ bitsOf (a .b .x) ∷ bitsOf (a .b .y) ∷ bitsOf (a .center .x) ∷ bitsOf (a .center .y) ∷ [])
-arcTold (AR.Refused r) = not-laid r
+arcTold (AR.Refused r) = refused r

@@ -20,7 +20,7 @@ pub(crate) fn pushed_code(r: Pushed) -> u64
 {
     match r {
         Pushed::Good(_, _) => 0,
-        Pushed::Refused(r) => r.number() as u64,
+        Pushed::Refused(r) => r.number as u64,
     }
 }
 
@@ -29,7 +29,7 @@ pub(crate) fn pushed_parts(r: Pushed) -> [u64; PARTS]
 {
     match r {
         Pushed::Good(layout, next) => layout_parts(layout, next as u64, 0),
-        Pushed::Refused(_) => at(0),
+        Pushed::Refused(r) => at(r.place),
     }
 }
 
@@ -39,7 +39,7 @@ pub(crate) fn stepped_code(r: Stepped) -> u64
 {
     match r {
         Stepped::Good(_) => 0,
-        Stepped::Refused(r) => r.number() as u64,
+        Stepped::Refused(r) => r.number as u64,
     }
 }
 
@@ -48,7 +48,7 @@ pub(crate) fn stepped_parts(r: Stepped) -> [u64; PARTS]
 {
     match r {
         Stepped::Good(layout) => layout_parts(layout, 0, 0),
-        Stepped::Refused(_) => at(0),
+        Stepped::Refused(r) => at(r.place),
     }
 }
 
@@ -58,7 +58,7 @@ pub(crate) fn point_ids_code(r: PointIds) -> u64
 {
     match r {
         PointIds::Found(_) => 0,
-        PointIds::Refused(r) => r.number() as u64,
+        PointIds::Refused(r) => r.number as u64,
     }
 }
 
@@ -67,7 +67,7 @@ pub(crate) fn point_ids_parts(r: PointIds) -> [u64; PARTS]
 {
     match r {
         PointIds::Found(v) => [v.x as u64, v.y as u64, 0, 0, 0, 0],
-        PointIds::Refused(_) => at(0),
+        PointIds::Refused(r) => at(r.place),
     }
 }
 
@@ -77,7 +77,7 @@ pub(crate) fn circle_ids_code(r: CircleIds) -> u64
 {
     match r {
         CircleIds::Found(_) => 0,
-        CircleIds::Refused(r) => r.number() as u64,
+        CircleIds::Refused(r) => r.number as u64,
     }
 }
 
@@ -93,7 +93,7 @@ pub(crate) fn circle_ids_parts(r: CircleIds) -> [u64; PARTS]
             0,
             0,
         ],
-        CircleIds::Refused(_) => at(0),
+        CircleIds::Refused(r) => at(r.place),
     }
 }
 
@@ -103,7 +103,7 @@ pub(crate) fn arc_ids_code(r: ArcIds) -> u64
 {
     match r {
         ArcIds::Found(_) => 0,
-        ArcIds::Refused(r) => r.number() as u64,
+        ArcIds::Refused(r) => r.number as u64,
     }
 }
 
@@ -119,7 +119,7 @@ pub(crate) fn arc_ids_parts(r: ArcIds) -> [u64; PARTS]
             v.center.x as u64,
             v.center.y as u64,
         ],
-        ArcIds::Refused(_) => at(0),
+        ArcIds::Refused(r) => at(r.place),
     }
 }
 
@@ -129,7 +129,7 @@ pub(crate) fn point_code(r: PointRead) -> u64
 {
     match r {
         PointRead::Found(_) => 0,
-        PointRead::Refused(r) => r.number() as u64,
+        PointRead::Refused(r) => r.number as u64,
     }
 }
 
@@ -138,7 +138,7 @@ pub(crate) fn point_parts(r: PointRead) -> [u64; PARTS]
 {
     match r {
         PointRead::Found(p) => [to_bits(p.x), to_bits(p.y), 0, 0, 0, 0],
-        PointRead::Refused(_) => at(0),
+        PointRead::Refused(r) => at(r.place),
     }
 }
 
@@ -148,7 +148,7 @@ pub(crate) fn circle_code(r: CircleRead) -> u64
 {
     match r {
         CircleRead::Found(_) => 0,
-        CircleRead::Refused(r) => r.number() as u64,
+        CircleRead::Refused(r) => r.number as u64,
     }
 }
 
@@ -164,7 +164,7 @@ pub(crate) fn circle_parts(r: CircleRead) -> [u64; PARTS]
             0,
             0,
         ],
-        CircleRead::Refused(_) => at(0),
+        CircleRead::Refused(r) => at(r.place),
     }
 }
 
@@ -174,7 +174,7 @@ pub(crate) fn arc_code(r: ArcRead) -> u64
 {
     match r {
         ArcRead::Found(_) => 0,
-        ArcRead::Refused(r) => r.number() as u64,
+        ArcRead::Refused(r) => r.number as u64,
     }
 }
 
@@ -190,6 +190,6 @@ pub(crate) fn arc_parts(r: ArcRead) -> [u64; PARTS]
             to_bits(a.center.x),
             to_bits(a.center.y),
         ],
-        ArcRead::Refused(_) => at(0),
+        ArcRead::Refused(r) => at(r.place),
     }
 }

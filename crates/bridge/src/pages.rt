@@ -12,6 +12,7 @@ use drawing::check;
 use lowering::lower;
 use reader::parse_problem;
 use reader::parse_whole;
+use record::PLACES;
 use record::ask::angle_of;
 use record::ask::label;
 use record::decode::decode_record;
@@ -23,9 +24,6 @@ ghost use Rattle.record.specs.Ask.{labelOf, angleOf};
 ghost use Rattle.drawing.specs.Check.{checkedOf};
 ghost use Rattle.lowering.specs.Lower.{Lowers};
 ghost use Rattle.bridge.specs.Told.{Tells, readingTold, checkedTold, loweredTold, askedTold, labelStart, labelTold};
-
-// How many labels a record has room for.
-const LABELS: usize = 4;
 
 // Reads a page, which may leave text over, and writes its records.
 #[no_mangle]
@@ -58,12 +56,12 @@ fn label_start(bytes: &[u8], q: usize, len: usize) -> usize
     if len == 0 {
         return 0;
     }
-    if LABELS <= q {
+    if PLACES <= q {
         return 0;
     }
     let r = decode_record(bytes, 0);
-    let starts = [r.start0, r.start1, r.start2, r.start3];
-    starts[q]
+    let v = r.labels[q];
+    v.start
 }
 
 // The start and length of label q of a record, counted from 0; an empty part, at 0, for a bad record or label number.

@@ -20,6 +20,7 @@ use crate::laid::stepped_parts;
 use layout::Arc;
 use layout::Circle;
 use layout::Layout;
+use layout::MOST;
 use layout::Point;
 use layout::Stage;
 ghost use mathlib.Core.Path.{_≡_};
@@ -31,7 +32,7 @@ ghost use Rattle.bridge.specs.Told.{Tells, pushedTold, steppedTold, poin
 // The number of the last stage, and more points than there can be.
 const LAST: usize = 3;
 
-const TOO_MANY: usize = 4001;
+const TOO_MANY: usize = MOST + 1;
 
 // The stage with a number.
 fn stage_by(stage: usize) -> Stage

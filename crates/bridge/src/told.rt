@@ -57,7 +57,7 @@ pub(crate) fn reading_code(r: Reading) -> u64
             guesses: _,
             end: _,
         } => 0,
-        Reading::Refused { number, place: _ } => number as u64,
+        Reading::Refused(r) => r.number as u64,
     }
 }
 
@@ -70,7 +70,7 @@ pub(crate) fn reading_parts(r: Reading) -> [u64; PARTS]
             guesses,
             end,
         } => [instructions as u64, guesses as u64, end as u64, 0, 0, 0],
-        Reading::Refused { number: _, place } => at(place),
+        Reading::Refused(r) => at(r.place),
     }
 }
 
@@ -85,7 +85,7 @@ pub(crate) fn checked_code(r: Checked) -> u64
             arcs: _,
             rows: _,
         } => 0,
-        Checked::Refused { number, place: _ } => number as u64,
+        Checked::Refused(r) => r.number as u64,
     }
 }
 
@@ -106,7 +106,7 @@ pub(crate) fn checked_parts(r: Checked) -> [u64; PARTS]
             0,
             0,
         ],
-        Checked::Refused { number: _, place } => at(place),
+        Checked::Refused(r) => at(r.place),
     }
 }
 
@@ -120,7 +120,7 @@ pub(crate) fn lowered_code(r: Lowered) -> u64
             next: _,
             rows: _,
         } => 0,
-        Lowered::Refused { number, place: _ } => number as u64,
+        Lowered::Refused(r) => r.number as u64,
     }
 }
 
@@ -129,7 +129,7 @@ pub(crate) fn lowered_parts(r: Lowered) -> [u64; PARTS]
 {
     match r {
         Lowered::Good { layout, next, rows } => layout_parts(layout, next as u64, rows as u64),
-        Lowered::Refused { number: _, place } => at(place),
+        Lowered::Refused(r) => at(r.place),
     }
 }
 
@@ -139,7 +139,7 @@ pub(crate) fn asked_code(r: Asked) -> u64
 {
     match r {
         Asked::Angle(_) => 0,
-        Asked::Refused { number, place: _ } => number as u64,
+        Asked::Refused(r) => r.number as u64,
     }
 }
 
@@ -157,6 +157,6 @@ pub(crate) fn asked_parts(r: Asked) -> [u64; PARTS]
 {
     match r {
         Asked::Angle(angle) => angle_parts(angle),
-        Asked::Refused { number: _, place } => at(place),
+        Asked::Refused(r) => at(r.place),
     }
 }

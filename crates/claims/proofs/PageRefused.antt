@@ -5,6 +5,7 @@ use mathlib.Core.Logic.{_↔_}
 use mathlib.Core.Bool.{true}
 use mathlib.Core.List.{List, _++_, map}
 use Prim.Native.Nat.{ℕ}
+use Rattle.refusal.specs.Refusal.{refusal}
 use Rattle.refusal.specs.First.{Nowhere, Told, later}
 use Rattle.refusal.proofs.Told.{told-holds, without}
 use Rattle.record.specs.Formed.{places, Malformed, entries}
@@ -32,17 +33,17 @@ module _ (text buffer : List ℕ) (instructions guesses end : ℕ) (buffer′ : 
   never = rw lines-are at (never-30 true text buffer instructions guesses end buffer′ read)
 
   -- so 30 is never told of a page
-  pub page-never-30 : (place : ℕ) → checkedOf (entries text records) ≡ checked.Refused 30 place → ⊥
+  pub page-never-30 : (place : ℕ) → checkedOf (entries text records) ≡ checked.Refused (refusal 30 place) → ⊥
   page-never-30 place e = let l = told-holds (refused-iff (linesOf text) malformed place .0 (rw lines-are at e)) in never place (l .inside) (l .here)
 
   -- the check refuses the page with a fault's number at a line exactly if that is the first of 31 to 35 that holds, at its lowest line
-  pub page-refused-iff : (f : Fault) (place : ℕ) → (checkedOf (entries text records) ≡ checked.Refused (numberOf f) place) ↔ Told (Holds (linesOf text)) (places (linesOf text)) behind30 f place
+  pub page-refused-iff : (f : Fault) (place : ℕ) → (checkedOf (entries text records) ≡ checked.Refused (refusal (numberOf f) place)) ↔ Told (Holds (linesOf text)) (places (linesOf text)) behind30 f place
   page-refused-iff f place =
       let t = refused-iff (linesOf text) f place in
       rw lines-are (λ e. without (t .0 e) never, λ w. t .1 (later never w))
 
   -- and lowering refuses it with a number at a place exactly if that is the first of 31 to 38
-  pub page-lower-refused-iff : (room : Room) (number place : ℕ) → (lowerOf (entries text records) room ≡ L.Refused number place)
+  pub page-lower-refused-iff : (room : Room) (number place : ℕ) → (lowerOf (entries text records) room ≡ L.Refused (refusal number place))
       ↔ ((c : Cause) × (causeNumber c ≡ number) × Told (Causes (linesOf text) room) (places (linesOf text)) (map fault behind30 ++ map lack lackOrder) c place)
   page-lower-refused-iff room number place =
       let t = lower-refused-iff (linesOf text) room number place in

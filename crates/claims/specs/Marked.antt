@@ -5,6 +5,8 @@ use Prim.Native.Nat.{ℕ}
 use Prim.Native.String.{String}
 use lib.ListN.{length}
 use Rattle.ground.specs.Words.{bytes}
+use Rattle.refusal.specs.Refusal.{refusal}
+use Rattle.record.specs.Kinds.{pairGuess}
 use Rattle.record.specs.Entry.{Entry}
 use Rattle.reader.specs.declared.Reading.{Reading}
 use Rattle.reader.specs.declared.Reading.the-variants as reading
@@ -21,7 +23,7 @@ pub record Case : Type 0 where
 -- the lines that a good reading writes
 abbrev pub written : Reading → List Entry → List Entry
 written (reading.Good instructions guesses end) lines = lines
-written (reading.Refused number place) lines = []
+written (reading.Refused r) lines = []
 
 -- the whole reading of a text, with room for ten records
 abbrev pub caseOf : List ℕ → Case
@@ -44,7 +46,7 @@ line kind third labels bits = record { kind = kind; third = third; labels = map 
 
 -- the guess: p, with the bits of 1 and of 2
 abbrev pub guess : Entry
-guess = record { kind = 24; third = 0; labels = bytes "p" ∷ []; x = 0x3ff0_0000_0000_0000; y = 0x4000_0000_0000_0000 }
+guess = record { kind = pairGuess; third = 0; labels = bytes "p" ∷ []; x = 0x3ff0_0000_0000_0000; y = 0x4000_0000_0000_0000 }
 
 -- a page that is read up to its end: these lines, and the guess
 abbrev pub reads : String → ℕ → List Entry → Case
@@ -52,7 +54,7 @@ reads first end lines = record { text = page first; told = reading.Good (length 
 
 -- a text that is refused with a number at a place
 abbrev pub refuses : List ℕ → ℕ → ℕ → Case
-refuses text number place = record { text = text; told = reading.Refused number place; lines = [] }
+refuses text number place = record { text = text; told = reading.Refused (refusal number place); lines = [] }
 
 -- ---- the table
 

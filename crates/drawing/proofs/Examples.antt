@@ -11,6 +11,7 @@ use Rattle.record.specs.Sound.{spelledTest, soundTest}
 use Rattle.record.specs.Formed.{malformedTest}
 use Rattle.index.specs.Labels.{labelled}
 use Rattle.drawing.specs.declared.Checked.{Checked}
+use Rattle.refusal.specs.Refusal.{refusal}
 use Rattle.drawing.specs.declared.Checked.the-variants.{Passed, Refused}
 use Rattle.drawing.specs.Check as check
 use check.{twice, namedAt, named, guessAt, guessed, wrongPlace, wrongLabelTest, noSuchPartTest, withoutGuessTest, checkOf, countBelow, checkedOf}
@@ -81,33 +82,36 @@ answers =
     ∷ checkedOf (one 1 "q" ∷ page)
     ∷ []
 
+abbrev refuses : ℕ → ℕ → Checked
+refuses number place = Refused (refusal number place)
+
 abbrev expected : List Checked
 expected =
     Passed 1 1 0 2
     ∷ Passed 0 0 1 3
     ∷ Passed 1 0 0 1
-    ∷ Refused 30 0
-    ∷ Refused 30 1
-    ∷ Refused 30 7
-    ∷ Refused 30 2
-    ∷ Refused 31 3
-    ∷ Refused 31 2
-    ∷ Refused 32 0
-    ∷ Refused 32 0
-    ∷ Refused 32 0
-    ∷ Refused 32 1
-    ∷ Refused 32 0
-    ∷ Refused 32 1
-    ∷ Refused 32 0
-    ∷ Refused 32 0
-    ∷ Refused 33 7
-    ∷ Refused 33 7
-    ∷ Refused 33 6
-    ∷ Refused 33 8
-    ∷ Refused 34 7
-    ∷ Refused 34 6
-    ∷ Refused 35 2
-    ∷ Refused 35 0
+    ∷ refuses 30 0
+    ∷ refuses 30 1
+    ∷ refuses 30 7
+    ∷ refuses 30 2
+    ∷ refuses 31 3
+    ∷ refuses 31 2
+    ∷ refuses 32 0
+    ∷ refuses 32 0
+    ∷ refuses 32 0
+    ∷ refuses 32 1
+    ∷ refuses 32 0
+    ∷ refuses 32 1
+    ∷ refuses 32 0
+    ∷ refuses 32 0
+    ∷ refuses 33 7
+    ∷ refuses 33 7
+    ∷ refuses 33 6
+    ∷ refuses 33 8
+    ∷ refuses 34 7
+    ∷ refuses 34 6
+    ∷ refuses 35 2
+    ∷ refuses 35 0
     ∷ []
 
 pub told : answers ≡ expected

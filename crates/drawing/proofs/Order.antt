@@ -2,13 +2,15 @@
 use mathlib.Core.Path.{_≡_, refl, sym, ap, _∙_, subst}
 use mathlib.Core.Bool.{Bool, false}
 use mathlib.Core.Option.{Option, none, some}
-use mathlib.Core.List.{List}
-use Prim.Native.Nat.{ℕ, zero, suc, _+_, _≤_, _<_}
+use mathlib.Core.List.{List, map}
+use Prim.Native.Nat.{ℕ, suc, _+_, _≤_, _<_}
 use native.Mathlib.Nat.{le-refl}
 use native.Mathlib.Numerals.{add-one}
 use native.Mathlib.Omega.{arith}
-use lib.ListN.{length, drop, drop-of-length-le, List·getD-eq-default}
+use lib.ListN.{length, getD, drop, drop-of-length-le, List·getD-eq-default}
 use lib.Seq.{drop-cons}
+use Rattle.ground.proofs.Pieces.{Each, each-at, getD-map}
+use Rattle.refusal.specs.Refusal.{refusal}
 use Rattle.refusal.specs.First.{passed, refused, tell, first, lowest, orElse}
 use Rattle.refusal.proofs.Search.{none-iff}
 use Rattle.record.specs.declared.formed.Formed.the-variants as formed
@@ -28,53 +30,45 @@ use Rattle.index.proofs.Links.{room-so}
 use Rattle.index.proofs.Found.{made-chained}
 use Rattle.drawing.specs.declared.Checked.the-variants as checked
 use Rattle.drawing.specs.Faults as faults
-use faults.{Fault, malformed, behind30, faultAt, numberOf}
+use faults.{Fault, malformed, behind30, numberOf}
+use Rattle.drawing.specs.Steps.{testNo}
 use Rattle.drawing.specs.Check as check
 use check.{twice, wrongLabelTest, noSuchPartTest, withoutGuessTest, test, checkOf, countBelow, countOf as count-of, answer, checkedOf}
 use Rattle.drawing.proofs.Laws.{count-kinds}
 
 -- ---- a turn of the loop
 
-module _ (t : Fault → ℕ → Bool) (n f : ℕ) (h : f < 5) (i : ℕ) (e : i ≡ lowestOr n (t (faultAt f))) where
-  open-up : first (drop f behind30) t n ≡ tell (faultAt f) (lowest n (t (faultAt f))) (first (drop (f + 1) behind30) t n)
+-- fault k behind 30
+abbrev pub faultAt : ℕ → Fault
+faultAt k = getD behind30 k malformed
+
+module _ (t : Fault → ℕ → Bool) (n k : ℕ) (h : k < length behind30) (i : ℕ) (e : i ≡ lowestOr n (t (faultAt k))) where
+  open-up : first (drop k behind30) t n ≡ tell (faultAt k) (lowest n (t (faultAt k))) (first (drop (k + 1) behind30) t n)
   unfolding first
-  open-up = rw (add-one, drop-cons behind30 f malformed h) refl
+  open-up = rw (add-one, drop-cons behind30 k malformed h) refl
 
-  pub stops : i < n → first (drop f behind30) t n ≡ refused (faultAt f) i
-  stops g = open-up ∙ ap (λ (o : Option ℕ). tell (faultAt f) o (first (drop (f + 1) behind30) t n)) (is-some n (t (faultAt f)) i e g)
+  pub stops : i < n → first (drop k behind30) t n ≡ refused (faultAt k) i
+  stops g = open-up ∙ ap (λ (o : Option ℕ). tell (faultAt k) o (first (drop (k + 1) behind30) t n)) (is-some n (t (faultAt k)) i e g)
 
-  pub goes-on : n ≤ i → first (drop f behind30) t n ≡ first (drop (f + 1) behind30) t n
-  goes-on g = open-up ∙ ap (λ (o : Option ℕ). tell (faultAt f) o (first (drop (f + 1) behind30) t n)) (is-none n (t (faultAt f)) i e g)
+  pub goes-on : n ≤ i → first (drop k behind30) t n ≡ first (drop (k + 1) behind30) t n
+  goes-on g = open-up ∙ ap (λ (o : Option ℕ). tell (faultAt k) o (first (drop (k + 1) behind30) t n)) (is-none n (t (faultAt k)) i e g)
 
-pub ends : (t : Fault → ℕ → Bool) (n f : ℕ) → 5 ≤ f → first (drop f behind30) t n ≡ passed
+pub ends : (t : Fault → ℕ → Bool) (n k : ℕ) → length behind30 ≤ k → first (drop k behind30) t n ≡ passed
 unfolding first
-ends t n f h = rw (drop-of-length-le behind30 h) refl
+ends t n k h = rw (drop-of-length-le behind30 h) refl
 
--- ---- the tests and numbers by their places in the order
+-- ---- the faults by their numbers
 
-module _ (es : List Entry) (f i : ℕ) where
-  pub test-0 : f ≡ 0 → twice es newPoint newArc i ≡ test es (faultAt f) i
-  test-0 e = rw e refl
+-- the number of fault k
+pub number-at : (k : ℕ) → k < length behind30 → getD (map numberOf behind30) k 0 ≡ numberOf (faultAt k)
+number-at k h = getD-map numberOf behind30 k malformed 0 h
 
-  pub test-1 : f ≡ 1 → wrongLabelTest es i ≡ test es (faultAt f) i
-  test-1 e = rw e refl
+-- the test by a fault's number is the fault's
+by-numbers : (es : List Entry) → Each (λ f. testNo es (numberOf f) ≡ test es f) behind30
+by-numbers es = (refl, (refl, (refl, (refl, (refl, tt)))))
 
-  pub test-2 : f ≡ 2 → noSuchPartTest es i ≡ test es (faultAt f) i
-  test-2 e = rw e refl
-
-  pub test-3 : f ≡ 3 → twice es pairGuess numberGuess i ≡ test es (faultAt f) i
-  test-3 e = rw e refl
-
-  pub test-4 : f ≡ 4 → withoutGuessTest es i ≡ test es (faultAt f) i
-  test-4 e = rw e refl
-
-pub number-is : (f : ℕ) → f < 5 → 31 + f ≡ numberOf (faultAt f)
-number-is zero h = refl
-number-is (suc zero) h = refl
-number-is (suc (suc zero)) h = refl
-number-is (suc (suc (suc zero))) h = refl
-number-is (suc (suc (suc (suc zero)))) h = refl
-number-is (suc (suc (suc (suc (suc f))))) h = absurd (omega (arith, h))
+pub test-at : (es : List Entry) (k : ℕ) → k < length behind30 → testNo es (getD (map numberOf behind30) k 0) ≡ test es (faultAt k)
+test-at es k h = rw (number-at k h) (each-at (λ (f : Fault). testNo es (numberOf f) ≡ test es f) behind30 malformed (by-numbers es) k h)
 
 -- ---- only 30 is told at the place after the last entry
 
@@ -114,11 +108,11 @@ module _ (es : List Entry) where
 -- ---- 30
 
 -- what is told of a list that is not well formed is told by the check
-pub told-30 : (es : List Entry) (r : Refusal) → formedOf es ≡ formed.Refused r → checked.Refused (r .number) (r .place) ≡ checkedOf es
+pub told-30 : (es : List Entry) (r : Refusal) → formedOf es ≡ formed.Refused r → checked.Refused r ≡ checkedOf es
 unfolding checkedOf checkOf first formedOf
 told-30 es r e = go (lowest (places es) (malformedTest es)) e
   where
-    go : (o : Option ℕ) → verdict o ≡ formed.Refused r → checked.Refused (r .number) (r .place) ≡ answer es (tell malformed o (first behind30 (test es) (places es)))
+    go : (o : Option ℕ) → verdict o ≡ formed.Refused r → checked.Refused r ≡ answer es (tell malformed o (first behind30 (test es) (places es)))
     go (some j) q =
         let m : malformedAt j ≡ r = cc in
         rw (← m) refl
@@ -148,9 +142,10 @@ module _ (text bs : List ℕ) (w : WellFormed text bs) where
       made-chained m (m .told ∙ room-so (length (drawn text bs)) (length hs) (length ns) (omega arith) eh (omega arith))
 
   -- a fault behind 30 that is told
-  pub told-behind : (f i : ℕ) → f < 5 → checkOf (drawn text bs) ≡ refused (faultAt f) i → checked.Refused (31 + f) i ≡ checkedOf (entries text bs)
+  pub told-behind : (k i : ℕ) → k < length behind30 → checkOf (drawn text bs) ≡ refused (faultAt k) i
+      → checked.Refused (refusal (getD (map numberOf behind30) k 0) i) ≡ checkedOf (entries text bs)
   unfolding checkedOf
-  told-behind f i h e = rw (entries-drawn text bs w, e, number-is f h) refl
+  told-behind k i h e = rw (entries-drawn text bs w, e, number-at k h) refl
 
   count-is : (low high n : ℕ) → n ≡ countBelow (λ i. decodeAt bs i .kind) low high (countOf bs) → n ≡ count-of (drawn text bs) low high
   count-is low high n e =

@@ -4,7 +4,8 @@ use mathlib.Core.Logic.{_↔_}
 use mathlib.Core.List.{List}
 use Prim.Native.Nat.{ℕ, _-_}
 use native.Mathlib.Omega.{arith}
-use lib.ListN.{getD}
+use Rattle.refusal.specs.declared.Refusal.{Refusal}
+use Rattle.refusal.specs.Refusal.{refusal, byNumber}
 use Rattle.refusal.specs.First.{Answer, passed, refused, Nowhere, Told}
 use Rattle.record.specs.Kinds.{newPoint, newCircle, newArc, firstRule, lastRule}
 use Rattle.record.specs.Entry.{Entry}
@@ -16,7 +17,7 @@ use Rattle.drawing.specs.Check.{checkOf, countOf, answer, checkedOf}
 use Rattle.drawing.proofs.Agree.{check-refuses, check-passes}
 
 -- a fault back from its number
-fault-back : (f : Fault) → getD order (numberOf f - 30) malformed ≡ f
+fault-back : (f : Fault) → byNumber numberOf (λ g. g) malformed order (numberOf f) ≡ f
 fault-back malformed = refl
 fault-back declared-twice = refl
 fault-back wrong-label = refl
@@ -25,18 +26,19 @@ fault-back guessed-twice = refl
 fault-back without-guess = refl
 
 numbers-apart : (f g : Fault) → numberOf f ≡ numberOf g → f ≡ g
-numbers-apart f g e = sym (fault-back f) ∙ ap (λ (n : ℕ). getD order (n - 30) malformed) e ∙ fault-back g
+numbers-apart f g e = sym (fault-back f) ∙ ap (byNumber numberOf (λ g. g) malformed order) e ∙ fault-back g
 
 -- a pass is no refusal
-not-passed : {p c a r n i : ℕ} → checked.Passed p c a r ≡ checked.Refused n i → ⊥
+not-passed : {p c a n : ℕ} {r : Refusal} → checked.Passed p c a n ≡ checked.Refused r → ⊥
 not-passed e = let z : _≡_ {A = ℕ} 0 1 = cc in omega arith
 
 module _ (es : List Entry) where
-  refused-of : (o : Answer Fault) (f : Fault) (i : ℕ) → answer es o ≡ checked.Refused (numberOf f) i → o ≡ refused f i
+  refused-of : (o : Answer Fault) (f : Fault) (i : ℕ) → answer es o ≡ checked.Refused (refusal (numberOf f) i) → o ≡ refused f i
   refused-of passed f i e = absurd (not-passed e)
   refused-of (refused g j) f i e =
-      let n : numberOf g ≡ numberOf f = cc in
-      let p : j ≡ i = cc in
+      let r : refusal (numberOf g) j ≡ refusal (numberOf f) i = cc in
+      let n : numberOf g ≡ numberOf f = ap (λ (r : Refusal). r .number) r in
+      let p : j ≡ i = ap (λ (r : Refusal). r .place) r in
       let q : g ≡ f = numbers-apart g f n in
       cc
 
@@ -45,7 +47,7 @@ module _ (es : List Entry) where
   passed-of (refused g j) e = absurd (not-passed (sym e))
 
   -- the number of f is told at i exactly if f holds at i, no fault earlier in the order holds anywhere, and f at no lower place
-  pub refused-iff : (f : Fault) (i : ℕ) → (checkedOf es ≡ checked.Refused (numberOf f) i) ↔ Told (Holds es) (places es) order f i
+  pub refused-iff : (f : Fault) (i : ℕ) → (checkedOf es ≡ checked.Refused (refusal (numberOf f) i)) ↔ Told (Holds es) (places es) order f i
   unfolding checkedOf
   refused-iff f i =
       let t = check-refuses es f i in

@@ -4,6 +4,7 @@ use mathlib.Core.List.{List, [], _∷_, _++_}
 use Prim.Native.Nat.{ℕ, zero, suc, _+_}
 use lib.Dec.{eqb}
 use lib.ListN.{length}
+use Rattle.refusal.specs.Refusal.{refusal}
 use Rattle.refusal.specs.First.{anyBelow, Answer, passed, refused, first}
 use Rattle.record.specs.Kinds.{kindAt, newPoint, newCircle, newArc, firstRule, lastRule, pairGuess, numberGuess}
 use Rattle.record.specs.Entry.{Label, Entry, entryAt, labelNo}
@@ -98,7 +99,7 @@ countOf es low high = countBelow (kindNo es) low high (length es)
 -- a drawing that passes has so many points, circles, arcs and rows; any other is refused with docs/FORMAT.md's number, at a place
 abbrev pub answer : List Entry → Answer Fault → Checked
 answer es passed = checked.Passed (countOf es newPoint newPoint) (countOf es newCircle newCircle) (countOf es newArc newArc) (countOf es firstRule lastRule)
-answer es (refused f i) = checked.Refused (numberOf f) i
+answer es (refused f i) = checked.Refused (refusal (numberOf f) i)
 
 -- what is told of a drawing
 unfoldable pub checkedOf : List Entry → Checked

@@ -3,7 +3,7 @@ use mathlib.Core.Path.{_≡_}
 use mathlib.Core.Logic.{_⊎_}
 use mathlib.Core.List.{List, [], _∷_, _++_}
 use Prim.Native.Nat.{ℕ}
-use lib.ListN.{length, getD}
+use lib.ListN.{length}
 use Rattle.refusal.specs.First.{SomeBelow}
 use Rattle.record.specs.Kinds.{kindAt, Declaration, Rule, Guess}
 use Rattle.record.specs.Entry.{Label, Entry, entryAt, labelNo}
@@ -63,10 +63,6 @@ pub data Fault : Type 0 where
 -- the faults behind 30
 abbrev pub behind30 : List Fault
 behind30 = declared-twice ∷ wrong-label ∷ no-such-part ∷ guessed-twice ∷ without-guess ∷ []
-
--- fault number f behind 30, counted from 0
-abbrev pub faultAt : ℕ → Fault
-faultAt f = getD behind30 f malformed
 
 -- the order of the check
 abbrev pub order : List Fault

@@ -1,4 +1,4 @@
 pub mod Needs
 pub mod Faults
 pub mod Check
-pub mod Tables
+pub mod Steps

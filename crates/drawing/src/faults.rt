@@ -1,4 +1,4 @@
-// The faults 31 to 35 at a record, and the lowest record where one holds.
+// The faults behind 30 at a record, and the lowest record where one holds.
 ghost use mathlib.Core.Path.{_≡_};
 ghost use Prim.Native.Nat.{_<_};
 ghost use Rattle.refusal.specs.First.{anyBelow};
@@ -7,9 +7,8 @@ ghost use Rattle.record.specs.Decode.{countOf as records-in, decodeAt};
 ghost use Rattle.index.specs.Labels.{drawn, lowestOr};
 ghost use Rattle.index.specs.Chains.{Chained};
 ghost use Rattle.drawing.specs.Needs.{codeAt};
-ghost use Rattle.drawing.specs.Faults.{faultAt};
-ghost use Rattle.drawing.specs.Check.{wrongPlace, wrongLabelTest, noSuchPartTest, withoutGuessTest, test};
-ghost use Rattle.drawing.specs.Tables.{Tables};
+ghost use Rattle.drawing.specs.Check.{wrongPlace, wrongLabelTest, noSuchPartTest, withoutGuessTest};
+ghost use Rattle.drawing.specs.Steps.{CheckTables, testNo};
 use crate::search::guessed;
 use crate::search::meets;
 use crate::search::twice;
@@ -26,6 +25,17 @@ use record::kinds::NEW_POINT;
 use record::kinds::NUMBER_GUESS;
 use record::kinds::PAIR_GUESS;
 use record::kinds::look;
+
+// The faults behind 30, by their numbers.
+pub(crate) const DECLARED_TWICE: u8 = 31;
+
+pub(crate) const WRONG_LABEL: u8 = 32;
+
+pub(crate) const NO_SUCH_PART: u8 = 33;
+
+pub(crate) const GUESSED_TWICE: u8 = 34;
+
+pub(crate) const WITHOUT_GUESS: u8 = 35;
 
 // The code of label place q of a kind.
 fn code_at(kinds: &[[u8; 8]; 26], kind: u8, q: usize) -> u8
@@ -126,7 +136,7 @@ fn without_guess(text: &[u8], records: &[u8], heads: &[u16], nexts: &[u16], i: u
     }
 }
 
-// Fault number f behind 30 at record i.
+// The fault of a number at record i; a number that no fault behind 30 has holds nowhere.
 fn bad(
     kinds: &[[u8; 8]; 26],
     text: &[u8],
@@ -135,17 +145,17 @@ fn bad(
     nexts: &[u16],
     guess_heads: &[u16],
     guess_nexts: &[u16],
-    f: usize,
+    number: u8,
     i: usize,
 ) -> bool
-    requires { ⌜ Tables (drawn (now text) (now records)) (now kinds) (now heads) (now nexts) (now «guess_heads») (now «guess_nexts») × (f < 5) × (i < records-in (now records)) ⌝ }
-    ensures { λ r. ⌜ r ≡ test (drawn (now (text .entry)) (now (records .entry))) (faultAt f) i ⌝ }
+    requires { ⌜ CheckTables (drawn (now text) (now records)) (now kinds) (now heads) (now nexts) (now «guess_heads») (now «guess_nexts») × (i < records-in (now records)) ⌝ }
+    ensures { λ r. ⌜ r ≡ testNo (drawn (now (text .entry)) (now (records .entry))) number i ⌝ }
 {
-    match f {
-        0 => twice(text, records, NEW_POINT, NEW_ARC, heads, nexts, i),
-        1 => wrong_label(kinds, text, records, heads, nexts, i),
-        2 => no_such_part(kinds, text, records, heads, nexts, i),
-        3 => twice(
+    match number {
+        DECLARED_TWICE => twice(text, records, NEW_POINT, NEW_ARC, heads, nexts, i),
+        WRONG_LABEL => wrong_label(kinds, text, records, heads, nexts, i),
+        NO_SUCH_PART => no_such_part(kinds, text, records, heads, nexts, i),
+        GUESSED_TWICE => twice(
             text,
             records,
             PAIR_GUESS,
@@ -154,11 +164,12 @@ fn bad(
             guess_nexts,
             i,
         ),
-        _ => without_guess(text, records, guess_heads, guess_nexts, i),
+        WITHOUT_GUESS => without_guess(text, records, guess_heads, guess_nexts, i),
+        _ => false,
     }
 }
 
-// The lowest record where fault number f holds, or the number of records.
+// The lowest record where the fault of a number holds, or the number of records.
 pub(crate) fn lowest_bad(
     kinds: &[[u8; 8]; 26],
     text: &[u8],
@@ -167,10 +178,10 @@ pub(crate) fn lowest_bad(
     nexts: &[u16],
     guess_heads: &[u16],
     guess_nexts: &[u16],
-    f: usize,
+    number: u8,
 ) -> usize
-    requires { ⌜ Tables (drawn (now text) (now records)) (now kinds) (now heads) (now nexts) (now «guess_heads») (now «guess_nexts») × (f < 5) ⌝ }
-    ensures { λ r. ⌜ r ≡ lowestOr (records-in (now (records .entry))) (test (drawn (now (text .entry)) (now (records .entry))) (faultAt f)) ⌝ }
+    requires { ⌜ CheckTables (drawn (now text) (now records)) (now kinds) (now heads) (now nexts) (now «guess_heads») (now «guess_nexts») ⌝ }
+    ensures { λ r. ⌜ r ≡ lowestOr (records-in (now (records .entry))) (testNo (drawn (now (text .entry)) (now (records .entry))) number) ⌝ }
 {
     let n = records.len() / SIZE;
     let mut i = 0;
@@ -183,7 +194,7 @@ pub(crate) fn lowest_bad(
             nexts,
             guess_heads,
             guess_nexts,
-            f,
+            number,
             i,
         ) {
             return i;

@@ -1,4 +1,4 @@
-// The added check of a drawing: 30, then 31 to 35.
+// The added check of a drawing: 30, then the other faults in their order.
 mod faults;
 mod search;
 
@@ -8,7 +8,12 @@ ghost use Rattle.record.specs.Formed.{WellFormed, entries};
 ghost use Rattle.record.specs.Decode.{countOf as records-in, decodeAt};
 ghost use Rattle.index.specs.Labels.{drawn};
 ghost use Rattle.drawing.specs.Check.{countBelow, checkedOf};
-ghost use Rattle.drawing.specs.Tables.{Tables};
+ghost use Rattle.drawing.specs.Steps.{CheckTables};
+use faults::DECLARED_TWICE;
+use faults::GUESSED_TWICE;
+use faults::NO_SUCH_PART;
+use faults::WITHOUT_GUESS;
+use faults::WRONG_LABEL;
 use faults::lowest_bad;
 use index::HEADS;
 use index::chain;
@@ -25,11 +30,18 @@ use record::kinds::NEW_CIRCLE;
 use record::kinds::NEW_POINT;
 use record::kinds::NUMBER_GUESS;
 use record::kinds::PAIR_GUESS;
+use refusal::Refusal;
 
-// The faults behind 30, and the number of the first of them.
+// The numbers of the faults behind 30, in the order in which they are told.
 const FAULTS: usize = 5;
 
-const FIRST_FAULT: u8 = 31;
+const ORDER: [u8; FAULTS] = [
+    DECLARED_TWICE,
+    WRONG_LABEL,
+    NO_SUCH_PART,
+    GUESSED_TWICE,
+    WITHOUT_GUESS,
+];
 
 // What is told of a drawing: how many points, circles, arcs and rows it has, or a refusal.
 pub enum Checked {
@@ -39,10 +51,7 @@ pub enum Checked {
         arcs: usize,
         rows: usize,
     },
-    Refused {
-        number: u8,
-        place: usize,
-    },
+    Refused(Refusal),
 }
 
 // 1 where a test passes, and else 0.
@@ -67,7 +76,7 @@ fn count(records: &[u8], low: u8, high: u8) -> usize
     m
 }
 
-// The faults behind 30 of a well formed list by number, and within one the lowest record.
+// The faults behind 30 of a well formed list in their order, and within one the lowest record.
 fn check_by(
     kinds: &[[u8; 8]; 26],
     text: &[u8],
@@ -77,12 +86,14 @@ fn check_by(
     guess_heads: &[u16],
     guess_nexts: &[u16],
 ) -> Checked
-    requires { ⌜ WellFormed (now text) (now records) × Tables (drawn (now text) (now records)) (now kinds) (now heads) (now nexts) (now «guess_heads») (now «guess_nexts») ⌝ }
+    requires { ⌜ WellFormed (now text) (now records) × CheckTables (drawn (now text) (now records)) (now kinds) (now heads) (now nexts) (now «guess_heads») (now «guess_nexts») ⌝ }
     ensures { λ r. ⌜ r ≡ checkedOf (entries (now (text .entry)) (now (records .entry))) ⌝ }
 {
     let n = records.len() / SIZE;
-    let mut f = 0;
-    while f < FAULTS {
+    let order = ORDER;
+    let mut k = 0;
+    while k < FAULTS {
+        let number = order[k];
         let i = lowest_bad(
             kinds,
             text,
@@ -91,15 +102,12 @@ fn check_by(
             nexts,
             guess_heads,
             guess_nexts,
-            f,
+            number,
         );
         if i < n {
-            return Checked::Refused {
-                number: FIRST_FAULT + (f as u8),
-                place: i,
-            };
+            return Checked::Refused(Refusal { number, place: i });
         }
-        f += 1;
+        k += 1;
     }
     Checked::Passed {
         points: count(records, NEW_POINT, NEW_POINT),
@@ -109,15 +117,12 @@ fn check_by(
     }
 }
 
-// The check of a drawing: 30 first, then 31 to 35 by number, and within one the lowest record.
+// The check of a drawing: 30 first, then the other faults in their order, and within one the lowest record.
 pub fn check(text: &[u8], records: &[u8]) -> Checked
     ensures { λ r. ⌜ r ≡ checkedOf (entries (now (text .entry)) (now (records .entry))) ⌝ }
 {
     if let Formed::Refused(r) = well_formed(text, records) {
-        return Checked::Refused {
-            number: r.number,
-            place: r.place,
-        };
+        return Checked::Refused(r);
     }
     let kinds = KINDS;
     let mut heads = [0u16; HEADS];

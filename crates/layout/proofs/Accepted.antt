@@ -7,53 +7,54 @@ use native.Mathlib.Nat.{suc-mul, zero-add}
 use mathlib.Core.List.{List, [], _∷_, _++_, append-assoc, append-nil, map}
 use lib.ListN.{length, length-map}
 use lib.Ieee.{Float}
-use Rattle.layout.specs.declared.Kind.{Kind}
-use Rattle.layout.specs.declared.Kind.the-variants as K
+use Rattle.layout.specs.declared.ShapeKind.{ShapeKind}
+use Rattle.layout.specs.declared.ShapeKind.the-variants as K
 use Rattle.layout.specs.declared.Layout.{Layout}
 use Rattle.layout.specs.declared.Point.{Point}
 use Rattle.layout.specs.declared.Circle.{Circle}
 use Rattle.layout.specs.declared.Arc.{Arc}
-use Rattle.layout.specs.Slots.{Shape, point, circle, arc, kindOf, components, sizeOf, countOf, slotsOf, withOne, empty, mostShapes, stageNumber, stageDue}
-use Rattle.layout.specs.Refusals.{idsEnd, doneTests}
-use Rattle.layout.specs.Push.{State, state, testsIn, filled, stepped}
+use Rattle.layout.specs.Slots.{Shape, point, circle, arc, kindOf, components, sizeOf, shapesIn, slotCount, withOne, empty, mostShapes, idsEnd, stageNumber, stageDue}
+use Rattle.layout.specs.Refusals.{reasonNumber, doneTold}
+use Rattle.layout.specs.Push.{State, state, toldIn, filled, stepped}
 use Rattle.layout.specs.Run.{Act, push, done, act, takes, run, taken, runOf, Room, AllIn}
-use Rattle.layout.proofs.Told.{Clear, told-clear}
-use Rattle.layout.proofs.Laws.{Can, can-be, Fits, fits-clear, done-clear}
+use Rattle.refusal.specs.First.{passed}
+use Rattle.refusal.proofs.Once.{answered-passed}
+use Rattle.layout.proofs.Laws.{Can, can-be, Fits, fits-passes, done-passes}
 use Rattle.layout.proofs.Runs.{Kept, kept-filled, kept-act, kept-laid, kept-empty, ids-length, values-length, slots-more}
 
 -- the layout with n more of a kind
-abbrev more : Kind → ℕ → Layout → Layout
+abbrev more : ShapeKind → ℕ → Layout → Layout
 more K.Point n l = record { points = l .points + n; circles = l .circles; arcs = l .arcs; stage = l .stage }
 more K.Circle n l = record { points = l .points; circles = l .circles + n; arcs = l .arcs; stage = l .stage }
 more K.Arc n l = record { points = l .points; circles = l .circles; arcs = l .arcs + n; stage = l .stage }
 
-more-none : (k : Kind) (l : Layout) → l ≡ more k 0 l
+more-none : (k : ShapeKind) (l : Layout) → l ≡ more k 0 l
 more-none K.Point l = let e : l .points ≡ l .points + 0 = omega arith in ap (λ (n : ℕ). record { points = n; circles = l .circles; arcs = l .arcs; stage = l .stage }) e
 more-none K.Circle l = let e : l .circles ≡ l .circles + 0 = omega arith in ap (λ (n : ℕ). record { points = l .points; circles = n; arcs = l .arcs; stage = l .stage }) e
 more-none K.Arc l = let e : l .arcs ≡ l .arcs + 0 = omega arith in ap (λ (n : ℕ). record { points = l .points; circles = l .circles; arcs = n; stage = l .stage }) e
 
-more-one : (k : Kind) (n : ℕ) (l : Layout) → more k n (withOne k l) ≡ more k (suc n) l
+more-one : (k : ShapeKind) (n : ℕ) (l : Layout) → more k n (withOne k l) ≡ more k (suc n) l
 more-one K.Point n l = let e : l .points + 1 + n ≡ l .points + suc n = omega arith in rw e
 more-one K.Circle n l = let e : l .circles + 1 + n ≡ l .circles + suc n = omega arith in rw e
 more-one K.Arc n l = let e : l .arcs + 1 + n ≡ l .arcs + suc n = omega arith in rw e
 
 module _ (first : State) where
   -- n more of a kind have room
-  record Free (k : Kind) (n : ℕ) (l : Layout) : Type 0 where
+  record Free (k : ShapeKind) (n : ℕ) (l : Layout) : Type 0 where
     be : Can l
     due : stageNumber (l .stage) ≡ stageDue k
-    room : countOf k l + n ≤ mostShapes
-    in-ids : slotsOf l + n * sizeOf k ≤ length (first .ids)
-    in-values : slotsOf l + n * sizeOf k ≤ length (first .values)
-    left : first .next + (slotsOf l + n * sizeOf k) ≤ idsEnd
+    room : shapesIn k l + n ≤ mostShapes
+    in-ids : slotCount l + n * sizeOf k ≤ length (first .ids)
+    in-values : slotCount l + n * sizeOf k ≤ length (first .values)
+    left : first .next + (slotCount l + n * sizeOf k) ≤ idsEnd
 
-  free : (k : Kind) (n : ℕ) (l : Layout) → l .points ≤ mostShapes → l .circles ≤ mostShapes → l .arcs ≤ mostShapes
-      → (0 < l .circles → 1 ≤ stageNumber (l .stage)) → (0 < l .arcs → 2 ≤ stageNumber (l .stage)) → stageNumber (l .stage) ≡ stageDue k → countOf k l + n ≤ mostShapes
-      → slotsOf l + n * sizeOf k ≤ length (first .ids) → slotsOf l + n * sizeOf k ≤ length (first .values) → first .next + (slotsOf l + n * sizeOf k) ≤ idsEnd → Free k n l
+  free : (k : ShapeKind) (n : ℕ) (l : Layout) → l .points ≤ mostShapes → l .circles ≤ mostShapes → l .arcs ≤ mostShapes
+      → (0 < l .circles → 1 ≤ stageNumber (l .stage)) → (0 < l .arcs → 2 ≤ stageNumber (l .stage)) → stageNumber (l .stage) ≡ stageDue k → shapesIn k l + n ≤ mostShapes
+      → slotCount l + n * sizeOf k ≤ length (first .ids) → slotCount l + n * sizeOf k ≤ length (first .values) → first .next + (slotCount l + n * sizeOf k) ≤ idsEnd → Free k n l
   free k n l p c a lc la d r i v e =
       record { be = record { counts = record { points = p; circles = c; arcs = a }; circles-late = lc; arcs-late = la }; due = d; room = r; in-ids = i; in-values = v; left = e }
 
-  free-fits : (k : Kind) (n : ℕ) (xs : List Shape) (s : State) → Kept first xs s → Free k (suc n) (s .layout) → Fits k (s .layout) (s .next) (length (s .ids)) (length (s .values))
+  free-fits : (k : ShapeKind) (n : ℕ) (xs : List Shape) (s : State) → Kept first xs s → Free k (suc n) (s .layout) → Fits k (s .layout) (s .next) (length (s .ids)) (length (s .values))
   free-fits k n xs s h f =
       let e = suc-mul n (sizeOf k) in
       let i = ids-length first xs s h in
@@ -67,22 +68,22 @@ module _ (first : State) where
         left = omega (arith, f .left, h .next-is, h .slots);
       }
 
-  can-more : (k : Kind) (l : Layout) → Can l → stageNumber (l .stage) ≡ stageDue k → countOf k l < mostShapes → Can (withOne k l)
+  can-more : (k : ShapeKind) (l : Layout) → Can l → stageNumber (l .stage) ≡ stageDue k → shapesIn k l < mostShapes → Can (withOne k l)
   can-more K.Point l h d r = record { counts = record { points = omega arith; circles = h .counts .circles; arcs = h .counts .arcs }; circles-late = h .circles-late; arcs-late = h .arcs-late }
   can-more K.Circle l h d r = record { counts = record { points = h .counts .points; circles = omega arith; arcs = h .counts .arcs }; circles-late = λ z. omega arith; arcs-late = h .arcs-late }
   can-more K.Arc l h d r = record { counts = record { points = h .counts .points; circles = h .counts .circles; arcs = omega arith }; circles-late = h .circles-late; arcs-late = λ z. omega arith }
 
-  same-stage : (k : Kind) (l : Layout) → withOne k l .stage ≡ l .stage
+  same-stage : (k : ShapeKind) (l : Layout) → withOne k l .stage ≡ l .stage
   same-stage K.Point l = refl
   same-stage K.Circle l = refl
   same-stage K.Arc l = refl
 
-  one-more : (k : Kind) (l : Layout) → countOf k (withOne k l) ≡ countOf k l + 1
+  one-more : (k : ShapeKind) (l : Layout) → shapesIn k (withOne k l) ≡ shapesIn k l + 1
   one-more K.Point l = refl
   one-more K.Circle l = refl
   one-more K.Arc l = refl
 
-  free-more : (k : Kind) (n : ℕ) (l : Layout) → Free k (suc n) l → Free k n (withOne k l)
+  free-more : (k : ShapeKind) (n : ℕ) (l : Layout) → Free k (suc n) l → Free k n (withOne k l)
   free-more k n l f =
       let e = suc-mul n (sizeOf k) in
       let s = slots-more k l in
@@ -97,25 +98,25 @@ module _ (first : State) where
       }
 
   -- shapes of a kind, and `done` after them, with whatever follows
-  record Leg (k : Kind) (shapes ys : List Shape) (s : State) : Type 0 where
+  record Leg (k : ShapeKind) (shapes ys : List Shape) (s : State) : Type 0 where
     last : State
     layout-is : last .layout ≡ stepped (more k (length shapes) (s .layout))
     keeps : Kept first (ys ++ shapes) last
     took : (rest : List Act) → taken (map push shapes ++ (done ∷ rest)) s ≡ shapes ++ taken rest last
     went : (rest : List Act) → run (map push shapes ++ (done ∷ rest)) s ≡ run rest last
 
-  due-small : (k : Kind) → stageDue k < 3
+  due-small : (k : ShapeKind) → stageDue k < 3
   due-small K.Point = omega arith
   due-small K.Circle = omega arith
   due-small K.Arc = omega arith
 
-  module _ {X : Type 0} (make : X → Shape) (k : Kind) (is : (x : X) → kindOf (make x) ≡ k) where
+  module _ {X : Type 0} (make : X → Shape) (k : ShapeKind) (is : (x : X) → kindOf (make x) ≡ k) where
     leg : (xs : List X) (ys : List Shape) (s : State) → Kept first ys s → Free k (length xs) (s .layout) → Leg k (map make xs) ys s
     unfolding run taken
     leg [] ys s h f =
         record {
           last = act done s;
-          layout-is = told-clear (λ r. s .layout) (doneTests (s .layout)) (stepped (s .layout)) (done-clear _ (can-be _ (f .be)) (λ e. omega (arith, due-small k, f .due))) ∙ ap stepped (more-none k (s .layout));
+          layout-is = answered-passed reasonNumber (λ r. s .layout) (doneTold (s .layout)) (stepped (s .layout)) (done-passes _ (can-be _ (f .be)) (λ e. omega (arith, due-small k, f .due))) ∙ ap stepped (more-none k (s .layout));
           keeps = kept-act first done ys s h;
           took = λ rest. refl;
           went = λ rest. refl;
@@ -123,10 +124,10 @@ module _ (first : State) where
     leg (x ∷ xs) ys s h f =
         let e = is x in
         let t = free-fits k (length xs) ys s h f in
-        let c : Clear (testsIn (kindOf (make x)) s) = rw e (fits-clear _ _ _ _ _ (can-be _ (f .be)) t) in
+        let c : toldIn (kindOf (make x)) s ≡ passed = rw e (fits-passes _ _ _ _ _ (can-be _ (f .be)) t) in
         let s′ = filled (kindOf (make x)) (components (make x)) s in
-        let filled-is : act (push (make x)) s ≡ s′ = told-clear _ _ _ c in
-        let took-it : takes (push (make x)) s ≡ make x ∷ [] = told-clear _ _ _ c in
+        let filled-is : act (push (make x)) s ≡ s′ = answered-passed reasonNumber _ _ _ c in
+        let took-it : takes (push (make x)) s ≡ make x ∷ [] = answered-passed reasonNumber _ _ _ c in
         let next = leg xs (ys ++ (make x ∷ [])) s′ (kept-filled first (make x) ys s h (rw e t)) (rw e (free-more k (length xs) (s .layout) f)) in
         record {
           last = next .last;

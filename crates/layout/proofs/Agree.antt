@@ -7,20 +7,20 @@ use mathlib.Core.List.{List}
 use Prim.Native.Nat.{ℕ, zero, suc, _+_, _*_, _≤_, _<_}
 use native.Mathlib.Omega.{arith}
 use lib.ListN.{length, getD}
-use Rattle.layout.specs.declared.Kind.the-variants.{Arc}
+use Rattle.layout.specs.declared.ShapeKind.the-variants.{Arc}
 use Rattle.layout.specs.declared.Layout.{Layout}
 use Rattle.layout.specs.declared.ArcVars.{ArcVars}
 use Rattle.layout.specs.declared.ArcIds.the-variants as AI
-use Rattle.layout.specs.Slots.{slotsOf, slotOf}
-use Rattle.layout.specs.Refusals.{impossible}
+use Rattle.layout.specs.Slots.{slotCount, slotOf}
+use Rattle.layout.specs.Refusals.{reasonNumber, impossible}
 use Rattle.layout.specs.Look.{arcIdsAt, arcIds, arcSlotIds, arcVars}
 use Rattle.layout.specs.Run.{Distinct}
-use Rattle.layout.proofs.Told.{told-clear}
-use Rattle.layout.proofs.Laws.{look-clear}
+use Rattle.refusal.proofs.Once.{answered-passed}
+use Rattle.layout.proofs.Laws.{look-passes}
 
-module _ (l : Layout) (ids : List ℕ) (possible : impossible l ≡ false) (long : slotsOf l ≤ length ids) where
+module _ (l : Layout) (ids : List ℕ) (possible : impossible l ≡ false) (long : slotCount l ≤ length ids) where
   found : (i at : ℕ) → i < l .arcs → arcIdsAt l ids i at ≡ AI.Found (arcVars ids at)
-  found i at h = told-clear _ _ _ (look-clear Arc l (length ids) i possible long h)
+  found i at h = answered-passed reasonNumber _ _ _ (look-passes Arc l (length ids) i possible long h)
 
   pub agree : (l .circles ≡ 0) ⊎ (l .arcs ≡ 0) → (i : ℕ) → i < l .arcs → arcIds l ids i ≡ arcSlotIds l ids i
   unfolding arcIds arcSlotIds
@@ -35,7 +35,7 @@ module _ (l : Layout) (ids : List ℕ) (possible : impossible l ≡ false) (long
   unfolding arcIds arcSlotIds
   first-arc h e = first-id _ _ (sym (found 0 (l .points * 2 + 0 * 6) h) ∙ e ∙ found 0 (slotOf Arc l 0) h)
 
-  pub circles-or-arcs : Distinct (slotsOf l) ids → ((i : ℕ) → i < l .arcs → arcIds l ids i ≡ arcSlotIds l ids i) → (l .circles ≡ 0) ⊎ (l .arcs ≡ 0)
+  pub circles-or-arcs : Distinct (slotCount l) ids → ((i : ℕ) → i < l .arcs → arcIds l ids i ≡ arcSlotIds l ids i) → (l .circles ≡ 0) ⊎ (l .arcs ≡ 0)
   circles-or-arcs distinct same = by-count (l .arcs) refl
     where
       by-count : (a : ℕ) → l .arcs ≡ a → (l .circles ≡ 0) ⊎ (l .arcs ≡ 0)

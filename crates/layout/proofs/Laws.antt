@@ -8,21 +8,23 @@ use lib.ListN.{length}
 use lib.Ieee.{Float}
 use lib.Dec.{ltb}
 use borrow.Author.Tests.{le-ltb, lt-ltb, le-leb, lt-leb, eq-eqb, ne-eqb, ltb-false, leb-false, eqb-true, not-false}
-use Rattle.layout.specs.declared.Kind.{Kind}
-use Rattle.layout.specs.declared.Kind.the-variants.{Point, Circle, Arc}
+use Rattle.layout.specs.declared.ShapeKind.{ShapeKind}
+use Rattle.layout.specs.declared.ShapeKind.the-variants.{Point, Circle, Arc}
 use Rattle.layout.specs.declared.Layout.{Layout}
-use Rattle.layout.specs.declared.Refusal.the-variants.{Impossible, WrongStage, Full, Short, NoIds, NoShape}
 use Rattle.layout.specs.declared.Place.{Place}
 use Rattle.layout.specs.declared.Place.the-variants.{At, Not}
-use Rattle.layout.specs.Slots.{sizeOf, countOf, withOne, slotsOf, slotOf, stageNumber, stageDue, Small, mostShapes}
+use Rattle.layout.specs.Slots.{sizeOf, shapesIn, withOne, slotCount, slotOf, stageNumber, stageDue, Small, mostShapes, idsEnd}
 use Rattle.layout.specs.declared.Stage.{Stage}
 use Rattle.layout.specs.declared.Stepped.the-variants as S
 use Rattle.layout.specs.declared.Pushed.{Pushed}
 use Rattle.layout.specs.declared.Pushed.the-variants as P
-use Rattle.layout.specs.declared.Refusal.{Refusal}
-use Rattle.layout.specs.Push.{State, state, over, onward, testsIn, filled, pushed, Fills, nextOf, stageAfter, doneOf}
-use Rattle.layout.specs.Refusals.{Rising, told, doneTests, impossible, pushTests, lookTests, idsEnd}
-use Rattle.layout.proofs.Told.{Clear, told-clear, told-good, told-pair, as-refused, is-clear, the-place, as-found}
+use Rattle.refusal.specs.declared.Refusal.{Refusal}
+use Rattle.refusal.specs.First.{lowest, first, once, passed, answered}
+use Rattle.refusal.specs.Refusal.{refusal}
+use Rattle.refusal.proofs.Once.{clear-passes, passed-clear, answered-passed, answered-good, answered-pair}
+use Rattle.layout.specs.Push.{State, state, over, onward, toldIn, filled, pushed, Fills, nextOf, stageAfter, doneOf}
+use Rattle.layout.specs.Refusals.{Reason, reasonNumber, cannot-be, wrong-stage, full, short, few-ids, no-shape, pushOrder, doneOrder, lookOrder, Rising, impossible, barsPush, barsDone, barsLook, pushTold, doneTold, lookTold}
+use Rattle.layout.proofs.Placed.{as-refused, is-passed, the-place, as-found}
 
 -- ---- a layout that can be
 
@@ -70,57 +72,63 @@ can-be l h =
 pub small : (l : Layout) → impossible l ≡ false → Small l
 small l e = can l e .counts
 
-pub count-small : (k : Kind) (l : Layout) → Small l → countOf k l ≤ mostShapes
+pub count-small : (k : ShapeKind) (l : Layout) → Small l → shapesIn k l ≤ mostShapes
 count-small Point l s = s .points
 count-small Circle l s = s .circles
 count-small Arc l s = s .arcs
 
 -- ---- a push
-module _ (k : Kind) (l : Layout) (next ids values : ℕ) where
-  abbrev PushTold : Place → Type 0
-  PushTold p = p ≡ told Not (pushTests k l next ids values) (At (slotsOf l))
 
-  pub push-impossible : impossible l ≡ true → PushTold (Not Impossible)
-  unfolding told pushTests
+-- the refusal that tells a reason
+abbrev pub told : Reason → Refusal
+told r = refusal (reasonNumber r) 0
+
+module _ (k : ShapeKind) (l : Layout) (next ids values : ℕ) where
+  abbrev PushTold : Place → Type 0
+  PushTold p = p ≡ answered reasonNumber Not (pushTold k l next ids values) (At (slotCount l))
+
+  pub push-impossible : impossible l ≡ true → PushTold (Not (told cannot-be))
+  unfolding answered pushTold once first lowest
   push-impossible e = rw e
 
   module _ (possible : impossible l ≡ false) where
-    pub push-wrong-stage : (stageNumber (l .stage) ≡ stageDue k → ⊥) → PushTold (Not WrongStage)
-    unfolding told pushTests
+    pub push-wrong-stage : (stageNumber (l .stage) ≡ stageDue k → ⊥) → PushTold (Not (told wrong-stage))
+    unfolding answered pushTold once first lowest
     push-wrong-stage s = rw (possible, ne-eqb _ _ s)
 
     module _ (due : stageNumber (l .stage) ≡ stageDue k) where
-      pub push-full : mostShapes ≤ countOf k l → PushTold (Not Full)
-      unfolding told pushTests
+      pub push-full : mostShapes ≤ shapesIn k l → PushTold (Not (told full))
+      unfolding answered pushTold once first lowest
       push-full f = rw (possible, eq-eqb _ _ due, le-leb _ _ f)
 
-      module _ (room : countOf k l < mostShapes) where
-        pub push-short : (ltb ids (slotsOf l + sizeOf k) || ltb values (slotsOf l + sizeOf k)) ≡ true → PushTold (Not Short)
-        unfolding told pushTests
+      module _ (room : shapesIn k l < mostShapes) where
+        pub push-short : (ltb ids (slotCount l + sizeOf k) || ltb values (slotCount l + sizeOf k)) ≡ true → PushTold (Not (told short))
+        unfolding answered pushTold once first lowest
         push-short s = rw (possible, eq-eqb _ _ due, lt-leb _ _ room, s)
 
-        module _ (long : (ltb ids (slotsOf l + sizeOf k) || ltb values (slotsOf l + sizeOf k)) ≡ false) where
-          pub push-no-ids : idsEnd - next < sizeOf k → PushTold (Not NoIds)
-          unfolding told pushTests
+        module _ (long : (ltb ids (slotCount l + sizeOf k) || ltb values (slotCount l + sizeOf k)) ≡ false) where
+          pub push-no-ids : idsEnd - next < sizeOf k → PushTold (Not (told few-ids))
+          unfolding answered pushTold once first lowest
           push-no-ids n = rw (possible, eq-eqb _ _ due, lt-leb _ _ room, long, lt-ltb _ _ n)
 
-          pub push-at : (at : ℕ) → at ≡ slotsOf l → sizeOf k ≤ idsEnd - next → PushTold (At at)
-          unfolding told pushTests
+          pub push-at : (at : ℕ) → at ≡ slotCount l → sizeOf k ≤ idsEnd - next → PushTold (At at)
+          unfolding answered pushTold once first lowest
           push-at at e n = rw (possible, eq-eqb _ _ due, lt-leb _ _ room, long, le-ltb _ _ n) (ap At e)
 
 -- what is known where a shape is taken
-pub record Fits (k : Kind) (l : Layout) (next ids values : ℕ) : Type 0 where
+pub record Fits (k : ShapeKind) (l : Layout) (next ids values : ℕ) : Type 0 where
   pub counts : Small l
   pub due : stageNumber (l .stage) ≡ stageDue k
-  pub room : countOf k l < mostShapes
-  pub in-ids : slotsOf l + sizeOf k ≤ ids
-  pub in-values : slotsOf l + sizeOf k ≤ values
+  pub room : shapesIn k l < mostShapes
+  pub in-ids : slotCount l + sizeOf k ≤ ids
+  pub in-values : slotCount l + sizeOf k ≤ values
   pub left : sizeOf k ≤ idsEnd - next
 
-pub fits : (k : Kind) (l : Layout) (next ids values : ℕ) → Clear (pushTests k l next ids values) → Fits k l next ids values
-unfolding pushTests
-fits k l next ids values c =
-    let long = neither (ltb ids (slotsOf l + sizeOf k)) (ltb values (slotsOf l + sizeOf k)) (c .1 .1 .1 .0) in
+pub fits : (k : ShapeKind) (l : Layout) (next ids values : ℕ) → pushTold k l next ids values ≡ passed → Fits k l next ids values
+unfolding pushTold
+fits k l next ids values e =
+    let c = passed-clear (barsPush k l next ids values) pushOrder e in
+    let long = neither (ltb ids (slotCount l + sizeOf k)) (ltb values (slotCount l + sizeOf k)) (c .1 .1 .1 .0) in
     record {
       counts = small l (c .0);
       due = eqb-true _ _ (not-false _ (c .1 .0));
@@ -130,11 +138,11 @@ fits k l next ids values c =
       left = ltb-false _ _ (c .1 .1 .1 .1 .0);
     }
 
-pub fits-clear : (k : Kind) (l : Layout) (next ids values : ℕ) → impossible l ≡ false → Fits k l next ids values → Clear (pushTests k l next ids values)
-unfolding pushTests
-fits-clear k l next ids values e f = (e, (rw (eq-eqb _ _ (f .due)), (lt-leb _ _ (f .room), (rw (le-ltb _ _ (f .in-ids), le-ltb _ _ (f .in-values)), (le-ltb _ _ (f .left), tt)))))
+pub fits-passes : (k : ShapeKind) (l : Layout) (next ids values : ℕ) → impossible l ≡ false → Fits k l next ids values → pushTold k l next ids values ≡ passed
+unfolding pushTold
+fits-passes k l next ids values e f = clear-passes (barsPush k l next ids values) pushOrder (e, (rw (eq-eqb _ _ (f .due)), (lt-leb _ _ (f .room), (rw (le-ltb _ _ (f .in-ids), le-ltb _ _ (f .in-values)), (le-ltb _ _ (f .left), tt)))))
 
-module _ (k : Kind) (vs : List Float) (s : State) (place : Place) (asked : place ≡ told Not (testsIn k s) (At (slotsOf (s .layout)))) where
+module _ (k : ShapeKind) (vs : List Float) (s : State) (place : Place) (asked : place ≡ answered reasonNumber Not (toldIn k s) (At (slotCount (s .layout)))) where
   -- a refusal of the place is one of the push, which changes nothing
   pub push-refused : (r : Refusal) → place ≡ Not r → Fills k vs s (P.Refused r) (s .ids) (s .values)
   push-refused r e =
@@ -159,103 +167,101 @@ pushed-good : (l : Layout) (n : ℕ) (r : Refusal) → P.Refused r ≡ P.Good l 
 pushed-good l n r e = let z : _≡_ {A = ℕ} 0 1 = cc in omega arith
 
 -- a good answer and the slices are the state after the push
-pub good-state : (k : Kind) (vs : List Float) (s : State) (l : Layout) (n : ℕ) (ids : List ℕ) (values : List Float) → Fills k vs s (P.Good l n) ids values → state l n ids values ≡ pushed k vs s
+pub good-state : (k : ShapeKind) (vs : List Float) (s : State) (l : Layout) (n : ℕ) (ids : List ℕ) (values : List Float) → Fills k vs s (P.Good l n) ids values → state l n ids values ≡ pushed k vs s
 good-state k vs s l n ids values f =
-    let clear = told-good _ (testsIn k s) _ _ (pushed-good l n) (sym (f .answer)) in
-    let same = told-clear (λ r. s) (testsIn k s) (filled k vs s) clear in
-    let answer = f .answer ∙ told-clear P.Refused (testsIn k s) (P.Good (filled k vs s .layout) (filled k vs s .next)) clear in
+    let clear = answered-good reasonNumber _ (toldIn k s) _ _ (pushed-good l n) (sym (f .answer)) in
+    let same = answered-passed reasonNumber (λ r. s) (toldIn k s) (filled k vs s) clear in
+    let answer = f .answer ∙ answered-passed reasonNumber P.Refused (toldIn k s) (P.Good (filled k vs s .layout) (filled k vs s .next)) clear in
     let layout-is : l ≡ filled k vs s .layout = cc answer in
     let next-is : n ≡ filled k vs s .next = cc answer in
     rw (layout-is, next-is, f .ids-are, f .values-are, same)
 
 -- a refused push leaves all as it was
-pub refused-state : (k : Kind) (vs : List Float) (s : State) (r : Refusal) (ids : List ℕ) (values : List Float) → Fills k vs s (P.Refused r) ids values → s ≡ pushed k vs s
-refused-state k vs s r ids values f = told-pair (λ (z : Pushed) (t : State). P.Refused r ≡ z → s ≡ t) _ _ (testsIn k s) _ _ (λ r′ e. refl) (λ c e. absurd (pushed-good _ _ r e)) (f .answer)
+pub refused-state : (k : ShapeKind) (vs : List Float) (s : State) (r : Refusal) (ids : List ℕ) (values : List Float) → Fills k vs s (P.Refused r) ids values → s ≡ pushed k vs s
+refused-state k vs s r ids values f = answered-pair reasonNumber (λ (z : Pushed) (t : State). P.Refused r ≡ z → s ≡ t) _ _ (toldIn k s) _ _ (λ r′ e. refl) (λ c e. absurd (pushed-good _ _ r e)) (f .answer)
 
 -- the next id that an answer says is the state's
-pub next-is : (k : Kind) (vs : List Float) (s : State) (r : Pushed) (ids : List ℕ) (values : List Float) → Fills k vs s r ids values → nextOf r (s .next) ≡ pushed k vs s .next
-next-is k vs s r ids values f = ap (λ (z : Pushed). nextOf z (s .next)) (f .answer) ∙ told-pair (λ (z : Pushed) (t : State). nextOf z (s .next) ≡ t .next) _ _ (testsIn k s) _ _ (λ r. refl) (λ c. refl)
+pub next-is : (k : ShapeKind) (vs : List Float) (s : State) (r : Pushed) (ids : List ℕ) (values : List Float) → Fills k vs s r ids values → nextOf r (s .next) ≡ pushed k vs s .next
+next-is k vs s r ids values f = ap (λ (z : Pushed). nextOf z (s .next)) (f .answer) ∙ answered-pair reasonNumber (λ (z : Pushed) (t : State). nextOf z (s .next) ≡ t .next) _ _ (toldIn k s) _ _ (λ r. refl) (λ c. refl)
 
 -- ---- `done`
 module _ (l : Layout) where
-  pub done-impossible : impossible l ≡ true → S.Refused Impossible ≡ doneOf l
-  unfolding doneOf told doneTests
+  pub done-impossible : impossible l ≡ true → S.Refused (told cannot-be) ≡ doneOf l
+  unfolding answered doneOf doneTold once first lowest
   done-impossible e = rw e
 
-  pub done-wrong-stage : impossible l ≡ false → stageNumber (l .stage) ≡ 3 → S.Refused WrongStage ≡ doneOf l
-  unfolding doneOf told doneTests
+  pub done-wrong-stage : impossible l ≡ false → stageNumber (l .stage) ≡ 3 → S.Refused (told wrong-stage) ≡ doneOf l
+  unfolding answered doneOf doneTold once first lowest
   done-wrong-stage e s = rw (e, eq-eqb _ _ s)
 
   pub done-good : (s : Stage) → s ≡ stageAfter (l .stage) → impossible l ≡ false → (stageNumber (l .stage) ≡ 3 → ⊥)
       → S.Good (record { points = l .points; circles = l .circles; arcs = l .arcs; stage = s }) ≡ doneOf l
-  unfolding doneOf told doneTests
+  unfolding answered doneOf doneTold once first lowest
   done-good s h e n = rw (e, ne-eqb _ _ n, h)
 
-pub done-clear : (l : Layout) → impossible l ≡ false → (stageNumber (l .stage) ≡ 3 → ⊥) → Clear (doneTests l)
-unfolding doneTests
-done-clear l e n = (e, (ne-eqb _ _ n, tt))
+pub done-passes : (l : Layout) → impossible l ≡ false → (stageNumber (l .stage) ≡ 3 → ⊥) → doneTold l ≡ passed
+unfolding doneTold
+done-passes l e n = clear-passes (barsDone l) doneOrder (e, (ne-eqb _ _ n, tt))
 
 -- ---- a lookup
-module _ (k : Kind) (l : Layout) (len i : ℕ) where
+module _ (k : ShapeKind) (l : Layout) (len i : ℕ) where
   abbrev LookTold : Place → Type 0
-  LookTold p = p ≡ told Not (lookTests k l len i) (At (slotOf k l i))
+  LookTold p = p ≡ answered reasonNumber Not (lookTold k l len i) (At (slotOf k l i))
 
-  pub look-impossible : impossible l ≡ true → LookTold (Not Impossible)
-  unfolding told lookTests
+  pub look-impossible : impossible l ≡ true → LookTold (Not (told cannot-be))
+  unfolding answered lookTold once first lowest
   look-impossible e = rw e
 
   module _ (possible : impossible l ≡ false) where
-    pub look-short : len < slotsOf l → LookTold (Not Short)
-    unfolding told lookTests
+    pub look-short : len < slotCount l → LookTold (Not (told short))
+    unfolding answered lookTold once first lowest
     look-short s = rw (possible, lt-ltb _ _ s)
 
-    module _ (long : slotsOf l ≤ len) where
-      pub look-no-shape : countOf k l ≤ i → LookTold (Not NoShape)
-      unfolding told lookTests
+    module _ (long : slotCount l ≤ len) where
+      pub look-no-shape : shapesIn k l ≤ i → LookTold (Not (told no-shape))
+      unfolding answered lookTold once first lowest
       look-no-shape n = rw (possible, le-ltb _ _ long, le-leb _ _ n)
 
-      pub look-at : (at : ℕ) → at ≡ slotOf k l i → i < countOf k l → LookTold (At at)
-      unfolding told lookTests
+      pub look-at : (at : ℕ) → at ≡ slotOf k l i → i < shapesIn k l → LookTold (At at)
+      unfolding answered lookTold once first lowest
       look-at at e n = rw (possible, le-ltb _ _ long, lt-leb _ _ n) (ap At e)
 
 -- the slots of a shape that is counted lie among the layout's
-pub slot-inside : (k : Kind) (l : Layout) (i : ℕ) → i < countOf k l → slotOf k l i + sizeOf k ≤ slotsOf l
+pub slot-inside : (k : ShapeKind) (l : Layout) (i : ℕ) → i < shapesIn k l → slotOf k l i + sizeOf k ≤ slotCount l
 slot-inside Point l i h = omega arith
 slot-inside Circle l i h = omega arith
 slot-inside Arc l i h = omega arith
 
 -- what is known where a shape is found
-pub record Found (k : Kind) (l : Layout) (len i : ℕ) : Type 0 where
+pub record Found (k : ShapeKind) (l : Layout) (len i : ℕ) : Type 0 where
   pub counts : Small l
-  pub long : slotsOf l ≤ len
-  pub counted : i < countOf k l
+  pub long : slotCount l ≤ len
+  pub counted : i < shapesIn k l
   pub inside : slotOf k l i + sizeOf k ≤ len
 
-pub found : (k : Kind) (l : Layout) (len i : ℕ) → Clear (lookTests k l len i) → Found k l len i
-unfolding lookTests
-found k l len i c =
+pub found : (k : ShapeKind) (l : Layout) (len i : ℕ) → lookTold k l len i ≡ passed → Found k l len i
+unfolding lookTold
+found k l len i e =
+    let c = passed-clear (barsLook k l len i) lookOrder e in
     let long = ltb-false _ _ (c .1 .0) in
     let counted = leb-false _ _ (c .1 .1 .0) in
     record { counts = small l (c .0); long = long; counted = counted; inside = omega (arith, slot-inside k l i counted) }
 
 -- where a shape is found, its slots lie in the slice
-pub look-inside : (k : Kind) (l : Layout) (len i : ℕ) (place : Place) → place ≡ told Not (lookTests k l len i) (At (slotOf k l i)) → (at : ℕ) → place ≡ At at → at + sizeOf k ≤ len
-look-inside k l len i place asked at e = omega (arith, the-place _ _ _ asked at e, found k l len i (is-clear _ _ _ asked at e))
+pub look-inside : (k : ShapeKind) (l : Layout) (len i : ℕ) (place : Place) → place ≡ answered reasonNumber Not (lookTold k l len i) (At (slotOf k l i)) → (at : ℕ) → place ≡ At at → at + sizeOf k ≤ len
+look-inside k l len i place asked at e = omega (arith, the-place _ _ _ asked at e, found k l len i (is-passed _ _ _ asked at e))
 
-pub look-clear : (k : Kind) (l : Layout) (len i : ℕ) → impossible l ≡ false → slotsOf l ≤ len → i < countOf k l → Clear (lookTests k l len i)
-unfolding lookTests
-look-clear k l len i e h n = (e, (le-ltb _ _ h, (lt-leb _ _ n, tt)))
+pub look-passes : (k : ShapeKind) (l : Layout) (len i : ℕ) → impossible l ≡ false → slotCount l ≤ len → i < shapesIn k l → lookTold k l len i ≡ passed
+unfolding lookTold
+look-passes k l len i e h n = clear-passes (barsLook k l len i) lookOrder (e, (le-ltb _ _ h, (lt-leb _ _ n, tt)))
 
--- ---- each list of tests is in the order of the numbers
-module _ (k : Kind) (l : Layout) where
-  pub push-rising : (next ids values : ℕ) → Rising 0 (pushTests k l next ids values)
-  unfolding pushTests
-  push-rising next ids values = (omega arith, (omega arith, (omega arith, (omega arith, (omega arith, tt)))))
+-- ---- each order is that of the numbers
 
-  pub done-rising : Rising 0 (doneTests l)
-  unfolding doneTests
-  done-rising = (omega arith, (omega arith, tt))
+pub push-rising : Rising 0 pushOrder
+push-rising = (omega arith, (omega arith, (omega arith, (omega arith, (omega arith, tt)))))
 
-  pub look-rising : (len i : ℕ) → Rising 0 (lookTests k l len i)
-  unfolding lookTests
-  look-rising len i = (omega arith, (omega arith, (omega arith, tt)))
+pub done-rising : Rising 0 doneOrder
+done-rising = (omega arith, (omega arith, tt))
+
+pub look-rising : Rising 0 lookOrder
+look-rising = (omega arith, (omega arith, (omega arith, tt)))

@@ -1,4 +1,4 @@
-pub mod Told
+pub mod Placed
 pub mod Laws
 pub mod Onward
 pub mod Storing

@@ -7,14 +7,12 @@ use lib.Ieee.{Float}
 use denote.Ref.{now}
 use borrow.Fn.Kinds.{endedOf}
 use Rattle.ground.proofs.Determined.{Determined, by-equation, Promise, Settled, Says}
-use Rattle.layout.specs.declared.Kind.{Kind}
+use Rattle.layout.specs.declared.ShapeKind.{ShapeKind}
 use Rattle.layout.specs.declared.Layout.{Layout}
 use Rattle.layout.specs.declared.Counter.{Counter}
 use Rattle.layout.specs.declared.Pushed.{Pushed}
 use Rattle.layout.specs.Slots.{Shape, point, circle, arc}
 use Rattle.layout.specs.Push.{State, Fills, PushLent}
-use Rattle.layout.proofs.Refusal.number.Kinds as number-kinds
-use Rattle.layout.proofs.Refusal.number.Reads as number
 use Rattle.layout.proofs.Layout.new.Kinds as new-kinds
 use Rattle.layout.proofs.Layout.new.Reads as new
 use Rattle.layout.proofs.Layout.done.Kinds as done-kinds
@@ -44,9 +42,6 @@ use Rattle.layout.proofs.lent.push_circle as lent-circle
 use Rattle.layout.proofs.lent.push_arc as lent-arc
 
 -- ---- functions that change nothing
-
-pub number-only : Determined 0 number-kinds.ps number-kinds.r number.Post
-number-only κs a x y e f p q = by-equation p q
 
 pub new-only : Determined 0 new-kinds.ps new-kinds.r new.Post
 new-only κs a x y e f p q = by-equation p q
@@ -84,7 +79,7 @@ Slices = Unit {0} × (Unit {0} × (List ℕ × (List Float × (Unit {0} × Unit 
 abbrev slices : List ℕ → List Float → Slices
 slices ids values = (tt, (tt, (ids, (values, (tt, tt)))))
 
-fills-only : (k : Kind) (vs : List Float) (s : State) (x y : Pushed) (i i′ : List ℕ) (v v′ : List Float) → Fills k vs s x i v → Fills k vs s y i′ v′ → (x ≡ y) × (slices i v ≡ slices i′ v′)
+fills-only : (k : ShapeKind) (vs : List Float) (s : State) (x y : Pushed) (i i′ : List ℕ) (v v′ : List Float) → Fills k vs s x i v → Fills k vs s y i′ v′ → (x ≡ y) × (slices i v ≡ slices i′ v′)
 fills-only k vs s x y i i′ v v′ p q = (by-equation (p .answer) (q .answer), λ j. slices (by-equation (p .ids-are) (q .ids-are) j) (by-equation (p .values-are) (q .values-are) j))
 
 pub push-point-only : Settled (endedOf 2 push-point-kinds.ps push-point-kinds.r) push-point.Post

@@ -10,47 +10,47 @@ use lib.ListN.{length, getD, set, length-set, length-append, List·getD-append}
 use lib.Seq.{getD-set-same, getD-set-other, getD-append-add}
 use lib.Ieee.{Float, nan}
 use borrow.Author.Count.{below-none, below-more}
-use Rattle.layout.specs.declared.Kind.{Kind}
-use Rattle.layout.specs.declared.Kind.the-variants as K
+use Rattle.layout.specs.declared.ShapeKind.{ShapeKind}
+use Rattle.layout.specs.declared.ShapeKind.the-variants as K
 use Rattle.layout.specs.declared.Layout.{Layout}
 use Rattle.layout.specs.declared.Point.{Point}
 use Rattle.layout.specs.declared.Circle.{Circle}
 use Rattle.layout.specs.declared.Arc.{Arc}
-use Rattle.layout.specs.Slots.{Shape, point, circle, arc, kindOf, components, sizeOf, countOf, slotsOf, slotOf, empty}
-use Rattle.layout.specs.Refusals.{impossible}
+use Rattle.layout.specs.Slots.{Shape, point, circle, arc, kindOf, components, sizeOf, shapesIn, slotCount, slotOf, empty}
+use Rattle.layout.specs.Refusals.{reasonNumber, impossible}
 use Rattle.layout.specs.Push.{State, state}
 use Rattle.layout.specs.Look.{pointRead, circleRead, arcRead}
 use Rattle.layout.specs.Run.{run, allComponents, shapesOf, runOf, Room, AllIn}
-use Rattle.layout.specs.Parts.{Part, Has, slotFor, shapeAt, Reads, ReadOut, ReadBack}
-use Rattle.layout.proofs.Told.{told-clear}
+use Rattle.layout.specs.Parts.{Component, Has, slotFor, shapeAt, Reads, ReadOut, ReadBack}
+use Rattle.refusal.proofs.Once.{answered-passed}
 use Rattle.layout.specs.declared.PointRead.the-variants as PR
 use Rattle.layout.specs.declared.CircleRead.the-variants as CR
 use Rattle.layout.specs.declared.ArcRead.the-variants as AR
-use Rattle.layout.proofs.Laws.{can-be, slot-inside, look-clear}
+use Rattle.layout.proofs.Laws.{can-be, slot-inside, look-passes}
 use Rattle.layout.proofs.Runs.{components-length, all-append}
 use Rattle.layout.proofs.Accepted.{all-in}
 
 -- ---- a part and its slot
 
 -- component j of the shape from a slot on stands j slots further
-abbrev pub At : Kind → List Float → ℕ → ℕ → Type 0
+abbrev pub At : ShapeKind → List Float → ℕ → ℕ → Type 0
 At k values at j = getD (components (shapeAt k values at)) j nan ≡ getD values (at + j) nan
 
-pub part-at : (k : Kind) (values : List Float) (at j : ℕ) → j < sizeOf k → At k values at j
+pub part-at : (k : ShapeKind) (values : List Float) (at j : ℕ) → j < sizeOf k → At k values at j
 part-at k values at =
     let here : getD values at nan ≡ getD values (at + 0) nan = let e : at ≡ at + 0 = omega arith in ap (λ (n : ℕ). getD values n nan) e in
     by-kind k here
   where
-    by-kind : (k : Kind) → getD values at nan ≡ getD values (at + 0) nan → (j : ℕ) → j < sizeOf k → At k values at j
+    by-kind : (k : ShapeKind) → getD values at nan ≡ getD values (at + 0) nan → (j : ℕ) → j < sizeOf k → At k values at j
     by-kind K.Point here = let more = below-more (At K.Point values at) in more 1 (more 0 (below-none (At K.Point values at)) here) refl
     by-kind K.Circle here = let more = below-more (At K.Circle values at) in more 2 (more 1 (more 0 (below-none (At K.Circle values at)) here) refl) refl
     by-kind K.Arc here = let more = below-more (At K.Arc values at) in more 5 (more 4 (more 3 (more 2 (more 1 (more 0 (below-none (At K.Arc values at)) here) refl) refl) refl) refl) refl
 
-abbrev part : Kind → ℕ → ℕ → Part
+abbrev part : ShapeKind → ℕ → ℕ → Component
 part k i j = record { kind = k; shape = i; place = j }
 
 -- two parts with one slot are one part
-one-part : (l : Layout) (k k′ : Kind) (i i′ j j′ : ℕ) → Has l (part k i j) → Has l (part k′ i′ j′) → slotFor l (part k i j) ≡ slotFor l (part k′ i′ j′) → part k i j ≡ part k′ i′ j′
+one-part : (l : Layout) (k k′ : ShapeKind) (i i′ j j′ : ℕ) → Has l (part k i j) → Has l (part k′ i′ j′) → slotFor l (part k i j) ≡ slotFor l (part k′ i′ j′) → part k i j ≡ part k′ i′ j′
 one-part l K.Point K.Point i i′ j j′ h h′ e = let a : i ≡ i′ = omega arith in let b : j ≡ j′ = omega arith in rw (a, b)
 one-part l K.Point K.Circle i i′ j j′ h h′ e = absurd (omega arith)
 one-part l K.Point K.Arc i i′ j j′ h h′ e = absurd (omega arith)
@@ -62,17 +62,17 @@ one-part l K.Arc K.Circle i i′ j j′ h h′ e = absurd (omega arith)
 one-part l K.Arc K.Arc i i′ j j′ h h′ e = let a : i ≡ i′ = omega arith in let b : j ≡ j′ = omega arith in rw (a, b)
 
 -- a shape that is counted is read out
-module _ (l : Layout) (values : List Float) (possible : impossible l ≡ false) (long : slotsOf l ≤ length values) where
-  pub reads : (k : Kind) (i : ℕ) → i < countOf k l → Reads k l values i
+module _ (l : Layout) (values : List Float) (possible : impossible l ≡ false) (long : slotCount l ≤ length values) where
+  pub reads : (k : ShapeKind) (i : ℕ) → i < shapesIn k l → Reads k l values i
   unfolding pointRead circleRead arcRead
-  reads K.Point i h = told-clear _ _ _ (look-clear K.Point l (length values) i possible long h)
-  reads K.Circle i h = told-clear _ _ _ (look-clear K.Circle l (length values) i possible long h)
-  reads K.Arc i h = told-clear _ _ _ (look-clear K.Arc l (length values) i possible long h)
+  reads K.Point i h = answered-passed reasonNumber _ _ _ (look-passes K.Point l (length values) i possible long h)
+  reads K.Circle i h = answered-passed reasonNumber _ _ _ (look-passes K.Circle l (length values) i possible long h)
+  reads K.Arc i h = answered-passed reasonNumber _ _ _ (look-passes K.Arc l (length values) i possible long h)
 
-module _ (l : Layout) (values : List Float) (possible : impossible l ≡ false) (long : slotsOf l ≤ length values) where
-  pub read-out : (p : Part) (x : Float) → Has l p → ReadOut l values p x
+module _ (l : Layout) (values : List Float) (possible : impossible l ≡ false) (long : slotCount l ≤ length values) where
+  pub read-out : (p : Component) (x : Float) → Has l p → ReadOut l values p x
   read-out p x h =
-      let inside : slotFor l p < slotsOf l = omega (arith, slot-inside (p .kind) l (p .shape) (h .0), h .1) in
+      let inside : slotFor l p < slotCount l = omega (arith, slot-inside (p .kind) l (p .shape) (h .0), h .1) in
       let values′ = set values (slotFor l p) x in
       record {
         inside = inside;
@@ -95,7 +95,7 @@ shape-there shape values at h = by-shape shape (let e : at ≡ at + 0 = omega ar
     by-shape (circle c) here h = rw (here, h 0 (omega arith), h 1 (omega arith), h 2 (omega arith))
     by-shape (arc a) here h = rw (here, h 0 (omega arith), h 1 (omega arith), h 2 (omega arith), h 3 (omega arith), h 4 (omega arith), h 5 (omega arith))
 
-module _ {X : Type 0} (make : X → Shape) (k : Kind) (is : (x : X) → kindOf (make x) ≡ k) where
+module _ {X : Type 0} (make : X → Shape) (k : ShapeKind) (is : (x : X) → kindOf (make x) ≡ k) where
   size-of : (x : X) → length (components (make x)) ≡ sizeOf k
   size-of x = components-length (make x) ∙ ap sizeOf (is x)
 
@@ -144,11 +144,11 @@ module _ (next : ℕ) (ids : List ℕ) (values : List Float) (ps : List Point) (
   possible : impossible l ≡ false
   possible = rw (known .layout-is) (can-be _ (record { counts = record { points = room .points; circles = room .circles; arcs = room .arcs }; circles-late = λ h. omega arith; arcs-late = λ h. omega arith }))
 
-  long : slotsOf l ≤ length (last .values)
+  long : slotCount l ≤ length (last .values)
   long = omega (arith, points-are, circles-are, arcs-are, room .in-values, known .all-laid .values-length)
 
   -- the slots hold the components, however they are grouped
-  there : (k : Kind) (i : ℕ) (all : List Float) → i < countOf k l → allComponents (shapesOf ps cs xs) ≡ all → (j : ℕ) → j < sizeOf k → getD (last .values) (slotOf k l i + j) nan ≡ getD all (slotOf k l i + j) nan
+  there : (k : ShapeKind) (i : ℕ) (all : List Float) → i < shapesIn k l → allComponents (shapesOf ps cs xs) ≡ all → (j : ℕ) → j < sizeOf k → getD (last .values) (slotOf k l i + j) nan ≡ getD all (slotOf k l i + j) nan
   there k i all h e j b = known .all-laid .value-at (slotOf k l i + j) (omega (arith, slot-inside k l i h)) ∙ ap (λ (z : List Float). getD z (slotOf k l i + j) nan) e
 
   grouped : allComponents (shapesOf ps cs xs) ≡ allComponents (map point ps) ++ (allComponents (map circle cs) ++ allComponents (map arc xs))

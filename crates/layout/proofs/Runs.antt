@@ -7,15 +7,15 @@ use mathlib.Core.List.{List, [], _∷_, _++_, append-assoc, append-nil}
 use lib.ListN.{length, drop, getD, length-append, length-drop, List·getD-append}
 use lib.Seq.{drop-at}
 use lib.Ieee.{Float, nan}
-use Rattle.layout.specs.declared.Kind.{Kind}
-use Rattle.layout.specs.declared.Kind.the-variants as K
+use Rattle.layout.specs.declared.ShapeKind.{ShapeKind}
+use Rattle.layout.specs.declared.ShapeKind.the-variants as K
 use Rattle.layout.specs.declared.Layout.{Layout}
-use Rattle.layout.specs.Slots.{Shape, point, circle, arc, kindOf, components, sizeOf, countOf, slotsOf, withOne, empty}
-use Rattle.layout.specs.Refusals.{doneTests}
-use Rattle.layout.specs.Push.{State, state, over, onward, testsIn, filled, stepped}
+use Rattle.layout.specs.Slots.{Shape, point, circle, arc, kindOf, components, sizeOf, shapesIn, slotCount, withOne, empty}
+use Rattle.layout.specs.Refusals.{reasonNumber, doneTold}
+use Rattle.layout.specs.Push.{State, state, over, onward, toldIn, filled, stepped}
 use Rattle.layout.specs.Run.{Act, push, done, act, takes, run, taken, allComponents, howMany, Laid}
 use Rattle.layout.proofs.Onward.{length-onward, getD-onward, onward-add, over-front}
-use Rattle.layout.proofs.Told.{told-pair, told-one}
+use Rattle.refusal.proofs.Once.{answered-pair}
 use Rattle.layout.proofs.Laws.{Fits, fits}
 
 -- ---- shapes
@@ -29,16 +29,16 @@ pub all-append : (xs ys : List Shape) → allComponents (xs ++ ys) ≡ allCompon
 all-append [] ys = refl
 all-append (x ∷ xs) ys = rw (all-append xs ys) (sym (append-assoc (components x) (allComponents xs) (allComponents ys)))
 
-pub many-append : (k : Kind) (xs ys : List Shape) → howMany k (xs ++ ys) ≡ howMany k xs + howMany k ys
+pub many-append : (k : ShapeKind) (xs ys : List Shape) → howMany k (xs ++ ys) ≡ howMany k xs + howMany k ys
 many-append k [] ys = omega arith
 many-append k (x ∷ xs) ys = rw (many-append k xs ys) (omega arith)
 
-pub slots-more : (k : Kind) (l : Layout) → slotsOf (withOne k l) ≡ slotsOf l + sizeOf k
+pub slots-more : (k : ShapeKind) (l : Layout) → slotCount (withOne k l) ≡ slotCount l + sizeOf k
 slots-more K.Point l = omega arith
 slots-more K.Circle l = omega arith
 slots-more K.Arc l = omega arith
 
-count-more : (k : Kind) (shape : Shape) (l : Layout) → countOf k (withOne (kindOf shape) l) ≡ countOf k l + howMany k (shape ∷ [])
+count-more : (k : ShapeKind) (shape : Shape) (l : Layout) → shapesIn k (withOne (kindOf shape) l) ≡ shapesIn k l + howMany k (shape ∷ [])
 count-more K.Point (point p) l = refl
 count-more K.Point (circle c) l = omega arith
 count-more K.Point (arc a) l = omega arith
@@ -49,7 +49,7 @@ count-more K.Arc (point p) l = omega arith
 count-more K.Arc (circle c) l = omega arith
 count-more K.Arc (arc a) l = refl
 
-count-stepped : (k : Kind) (l : Layout) → countOf k (stepped l) ≡ countOf k l
+count-stepped : (k : ShapeKind) (l : Layout) → shapesIn k (stepped l) ≡ shapesIn k l
 count-stepped K.Point l = refl
 count-stepped K.Circle l = refl
 count-stepped K.Arc l = refl
@@ -58,8 +58,8 @@ count-stepped K.Arc l = refl
 
 -- the slices in one piece: the ids and the components so far, and the rest as it was
 pub record Kept (first : State) (shapes : List Shape) (s : State) : Type 0 where
-  pub counts : (k : Kind) → countOf k (s .layout) ≡ howMany k shapes
-  pub slots : length (allComponents shapes) ≡ slotsOf (s .layout)
+  pub counts : (k : ShapeKind) → shapesIn k (s .layout) ≡ howMany k shapes
+  pub slots : length (allComponents shapes) ≡ slotCount (s .layout)
   pub next-is : s .next ≡ first .next + length (allComponents shapes)
   pub ids-are : s .ids ≡ onward (first .next) (length (allComponents shapes)) ++ drop (length (allComponents shapes)) (first .ids)
   pub values-are : s .values ≡ allComponents shapes ++ drop (length (allComponents shapes)) (first .values)
@@ -110,9 +110,9 @@ module _ (first : State) where
 
   pub kept-act : (a : Act) (xs : List Shape) (s : State) → Kept first xs s → Kept first (xs ++ takes a s) (act a s)
   kept-act (push shape) xs s h =
-      told-pair (λ ys z. Kept first (xs ++ ys) z) _ _ (testsIn (kindOf shape) s) _ _ (λ r. rw append-nil h) (λ c. kept-filled shape xs s h (fits _ _ _ _ _ c))
+      answered-pair reasonNumber (λ ys z. Kept first (xs ++ ys) z) _ _ (toldIn (kindOf shape) s) _ _ (λ r. rw append-nil h) (λ c. kept-filled shape xs s h (fits _ _ _ _ _ c))
   kept-act done xs s h =
-      told-one (λ l. Kept first (xs ++ []) (state l (s .next) (s .ids) (s .values))) _ (doneTests (s .layout)) _ (λ r. rw append-nil h) (λ c. rw append-nil (kept-stepped xs s h))
+      answered-pair reasonNumber (λ (l m : Layout). Kept first (xs ++ []) (state l (s .next) (s .ids) (s .values))) _ (λ r. s .layout) (doneTold (s .layout)) _ (s .layout) (λ r. rw append-nil h) (λ c. rw append-nil (kept-stepped xs s h))
 
   pub kept-run : (acts : List Act) (xs : List Shape) (s : State) → Kept first xs s → Kept first (xs ++ taken acts s) (run acts s)
   unfolding run taken
@@ -123,7 +123,7 @@ module _ (first : State) where
   pub kept-laid : (xs : List Shape) (s : State) → Kept first xs s → Laid first xs s
   kept-laid xs s h =
       let gs = allComponents xs in
-      let ids-at : (i : ℕ) → i < slotsOf (s .layout) → getD (s .ids) i 0 ≡ first .next + i
+      let ids-at : (i : ℕ) → i < slotCount (s .layout) → getD (s .ids) i 0 ≡ first .next + i
       = λ i b. rw (h .ids-are, List·getD-append (onward (first .next) (length gs)) (drop (length gs) (first .ids)) 0 i (rw length-onward (omega (arith, h .slots)))) (getD-onward (first .next) (length gs) i (omega (arith, h .slots))) in
       record {
         counts = h .counts;
@@ -138,7 +138,7 @@ module _ (first : State) where
         values-length = values-length xs s h;
       }
 
-none : (k : Kind) → countOf k empty ≡ 0
+none : (k : ShapeKind) → shapesIn k empty ≡ 0
 none K.Point = refl
 none K.Circle = refl
 none K.Arc = refl

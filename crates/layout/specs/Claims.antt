@@ -7,22 +7,22 @@ use mathlib.Core.List.{List}
 use lib.ListN.{length}
 use lib.Ieee.{Float}
 use Rattle.layout.specs.declared.Layout.{Layout}
-use Rattle.layout.specs.declared.Refusal.{Refusal}
+use Rattle.refusal.specs.declared.Refusal.{Refusal}
 use Rattle.layout.specs.declared.Pushed.the-variants as P
 use Rattle.layout.specs.declared.Point.{Point}
 use Rattle.layout.specs.declared.Circle.{Circle}
 use Rattle.layout.specs.declared.Arc.{Arc}
-use Rattle.layout.specs.Slots.{Shape, slotsOf, empty}
+use Rattle.layout.specs.Slots.{Shape, slotCount, empty}
 use Rattle.layout.specs.Refusals.{impossible}
 use Rattle.layout.specs.Push.{State, state, Push, after}
 use Rattle.layout.specs.Look.{arcIds, arcSlotIds}
 use Rattle.layout.specs.Run.{Act, run, taken, Distinct, Laid, runOf, Room, AllIn}
-use Rattle.layout.specs.Parts.{Part, Has, ReadOut, ReadBack}
+use Rattle.layout.specs.Parts.{Component, Has, ReadOut, ReadBack}
 
 -- with ids all distinct, the two lookups agree on every arc exactly if there are no circles or no arcs
 abbrev pub ArcsAgree : Type 0
 ArcsAgree =
-    (l : Layout) (ids : List ℕ) → impossible l ≡ false → slotsOf l ≤ length ids → Distinct (slotsOf l) ids
+    (l : Layout) (ids : List ℕ) → impossible l ≡ false → slotCount l ≤ length ids → Distinct (slotCount l) ids
     → ((i : ℕ) → i < l .arcs → arcIds l ids i ≡ arcSlotIds l ids i) ↔ ((l .circles ≡ 0) ⊎ (l .arcs ≡ 0))
 
 -- a push that is answered with a layout and the next id: they and the slices are the state after the push
@@ -54,4 +54,4 @@ AllReadBack =
 
 -- a value put in a slot is read out as that component of that shape and no other
 abbrev pub OneSlotOnePart : Type 0
-OneSlotOnePart = (l : Layout) (values : List Float) → impossible l ≡ false → slotsOf l ≤ length values → (p : Part) (x : Float) → Has l p → ReadOut l values p x
+OneSlotOnePart = (l : Layout) (values : List Float) → impossible l ≡ false → slotCount l ≤ length values → (p : Component) (x : Float) → Has l p → ReadOut l values p x

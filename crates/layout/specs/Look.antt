@@ -3,7 +3,8 @@ use Prim.Native.Nat.{ℕ, _+_, _*_}
 use mathlib.Core.List.{List}
 use lib.ListN.{length, getD}
 use lib.Ieee.{Float, nan}
-use Rattle.layout.specs.declared.Kind.the-variants.{Point, Circle, Arc}
+use Rattle.refusal.specs.First.{answered}
+use Rattle.layout.specs.declared.ShapeKind.the-variants.{Point, Circle, Arc}
 use Rattle.layout.specs.declared.Layout.{Layout}
 use Rattle.layout.specs.declared.Point as DP
 use Rattle.layout.specs.declared.Circle as DC
@@ -24,7 +25,7 @@ use Rattle.layout.specs.declared.CircleRead.the-variants as CR
 use Rattle.layout.specs.declared.ArcRead.{ArcRead}
 use Rattle.layout.specs.declared.ArcRead.the-variants as AR
 use Rattle.layout.specs.Slots.{sizeOf, slotOf}
-use Rattle.layout.specs.Refusals.{told, lookTests}
+use Rattle.layout.specs.Refusals.{reasonNumber, lookTold}
 
 -- ---- ids
 
@@ -46,15 +47,15 @@ arcVars ids at = record {
 
 -- the ids of point i
 unfoldable pub pointIds : Layout → List ℕ → ℕ → PointIds
-pointIds l ids i = told PI.Refused (lookTests Point l (length ids) i) (PI.Found (pointVars ids (slotOf Point l i)))
+pointIds l ids i = answered reasonNumber PI.Refused (lookTold Point l (length ids) i) (PI.Found (pointVars ids (slotOf Point l i)))
 
 -- the ids of circle i
 unfoldable pub circleIds : Layout → List ℕ → ℕ → CircleIds
-circleIds l ids i = told CI.Refused (lookTests Circle l (length ids) i) (CI.Found (circleVars ids (slotOf Circle l i)))
+circleIds l ids i = answered reasonNumber CI.Refused (lookTold Circle l (length ids) i) (CI.Found (circleVars ids (slotOf Circle l i)))
 
 -- the ids of arc i, taken from a slot on
 abbrev pub arcIdsAt : Layout → List ℕ → ℕ → ℕ → ArcIds
-arcIdsAt l ids i at = told AI.Refused (lookTests Arc l (length ids) i) (AI.Found (arcVars ids at))
+arcIdsAt l ids i at = answered reasonNumber AI.Refused (lookTold Arc l (length ids) i) (AI.Found (arcVars ids at))
 
 -- the ids of arc i as geometry_variables.rs has it, from 2P on
 unfoldable pub arcIds : Layout → List ℕ → ℕ → ArcIds
@@ -84,12 +85,12 @@ arcAt values at = record {
 
 -- point i, read out
 unfoldable pub pointRead : Layout → List Float → ℕ → PointRead
-pointRead l values i = told PR.Refused (lookTests Point l (length values) i) (PR.Found (pointAt values (slotOf Point l i)))
+pointRead l values i = answered reasonNumber PR.Refused (lookTold Point l (length values) i) (PR.Found (pointAt values (slotOf Point l i)))
 
 -- circle i, read out
 unfoldable pub circleRead : Layout → List Float → ℕ → CircleRead
-circleRead l values i = told CR.Refused (lookTests Circle l (length values) i) (CR.Found (circleAt values (slotOf Circle l i)))
+circleRead l values i = answered reasonNumber CR.Refused (lookTold Circle l (length values) i) (CR.Found (circleAt values (slotOf Circle l i)))
 
 -- arc i, read out
 unfoldable pub arcRead : Layout → List Float → ℕ → ArcRead
-arcRead l values i = told AR.Refused (lookTests Arc l (length values) i) (AR.Found (arcAt values (slotOf Arc l i)))
+arcRead l values i = answered reasonNumber AR.Refused (lookTold Arc l (length values) i) (AR.Found (arcAt values (slotOf Arc l i)))

@@ -4,17 +4,18 @@ use mathlib.Core.Path.{_≡_}
 use mathlib.Core.List.{List, [], _∷_, _++_}
 use lib.ListN.{length, take, drop}
 use lib.Ieee.{Float}
+use Rattle.refusal.specs.First.{Answer, answered}
 use Rattle.layout.specs.declared.Stage.{Stage}
 use Rattle.layout.specs.declared.Stage.the-variants.{Points, Circles, Arcs, Done}
-use Rattle.layout.specs.declared.Kind.{Kind}
+use Rattle.layout.specs.declared.ShapeKind.{ShapeKind}
 use Rattle.layout.specs.declared.Layout.{Layout}
 use Rattle.layout.specs.declared.Counter.{Counter}
 use Rattle.layout.specs.declared.Pushed.{Pushed}
 use Rattle.layout.specs.declared.Pushed.the-variants as P
 use Rattle.layout.specs.declared.Stepped.{Stepped}
 use Rattle.layout.specs.declared.Stepped.the-variants as S
-use Rattle.layout.specs.Slots.{Shape, kindOf, components, slotsOf, withOne}
-use Rattle.layout.specs.Refusals.{Test, told, pushTests, doneTests}
+use Rattle.layout.specs.Slots.{Shape, kindOf, components, slotCount, withOne}
+use Rattle.layout.specs.Refusals.{Reason, reasonNumber, pushTold, doneTold}
 
 -- a layout, the next id, and the two slices
 pub record State : Type 0 where
@@ -36,26 +37,26 @@ abbrev pub onward : ℕ → ℕ → List ℕ
 onward next zero = []
 onward next (suc n) = next ∷ onward (suc next) n
 
--- the tests of a push in a state
-abbrev pub testsIn : Kind → State → List Test
-testsIn k s = pushTests k (s .layout) (s .next) (length (s .ids)) (length (s .values))
+-- what is told of a push in a state
+abbrev pub toldIn : ShapeKind → State → Answer Reason
+toldIn k s = pushTold k (s .layout) (s .next) (length (s .ids)) (length (s .values))
 
 -- the state after a good push of a shape of a kind, by its components
-abbrev pub filled : Kind → List Float → State → State
+abbrev pub filled : ShapeKind → List Float → State → State
 filled k vs s = record {
   layout = withOne k (s .layout);
   next = s .next + length vs;
-  ids = over (s .ids) (slotsOf (s .layout)) (onward (s .next) (length vs));
-  values = over (s .values) (slotsOf (s .layout)) vs;
+  ids = over (s .ids) (slotCount (s .layout)) (onward (s .next) (length vs));
+  values = over (s .values) (slotCount (s .layout)) vs;
 }
 
 -- the state after a push: a refused one changes nothing
-abbrev pub pushed : Kind → List Float → State → State
-pushed k vs s = told (λ r. s) (testsIn k s) (filled k vs s)
+abbrev pub pushed : ShapeKind → List Float → State → State
+pushed k vs s = answered reasonNumber (λ r. s) (toldIn k s) (filled k vs s)
 
 -- a push of a shape of a kind by its components: its answer and the two slices after it
-pub record Fills (k : Kind) (vs : List Float) (s : State) (r : Pushed) (ids : List ℕ) (values : List Float) : Type 0 where
-  pub answer : r ≡ told P.Refused (testsIn k s) (P.Good (filled k vs s .layout) (filled k vs s .next))
+pub record Fills (k : ShapeKind) (vs : List Float) (s : State) (r : Pushed) (ids : List ℕ) (values : List Float) : Type 0 where
+  pub answer : r ≡ answered reasonNumber P.Refused (toldIn k s) (P.Good (filled k vs s .layout) (filled k vs s .next))
   pub ids-are : ids ≡ pushed k vs s .ids
   pub values-are : values ≡ pushed k vs s .values
 
@@ -90,4 +91,4 @@ stepped l = record { points = l .points; circles = l .circles; arcs = l .arcs; s
 
 -- what `done` answers
 unfoldable pub doneOf : Layout → Stepped
-doneOf l = told S.Refused (doneTests l) (S.Good (stepped l))
+doneOf l = answered reasonNumber S.Refused (doneTold l) (S.Good (stepped l))

@@ -6,15 +6,16 @@ use mathlib.Core.List.{List, [], _∷_, _++_, map}
 use lib.ListN.{length, drop, getD}
 use lib.Dec.{eqb}
 use lib.Ieee.{Float, nan}
+use Rattle.refusal.specs.First.{answered}
 use Rattle.layout.specs.declared.Stage.the-variants.{Done}
-use Rattle.layout.specs.declared.Kind.{Kind}
-use Rattle.layout.specs.declared.Kind.the-variants as K
+use Rattle.layout.specs.declared.ShapeKind.{ShapeKind}
+use Rattle.layout.specs.declared.ShapeKind.the-variants as K
 use Rattle.layout.specs.declared.Point.{Point}
 use Rattle.layout.specs.declared.Circle.{Circle}
 use Rattle.layout.specs.declared.Arc.{Arc}
-use Rattle.layout.specs.Slots.{Shape, point, circle, arc, kindOf, components, sizeOf, countOf, slotsOf, mostShapes, stageDue}
-use Rattle.layout.specs.Refusals.{told, doneTests, idsEnd}
-use Rattle.layout.specs.Push.{State, state, testsIn, after, stepped}
+use Rattle.layout.specs.Slots.{Shape, point, circle, arc, kindOf, components, sizeOf, shapesIn, slotCount, mostShapes, idsEnd, stageDue}
+use Rattle.layout.specs.Refusals.{reasonNumber, doneTold}
+use Rattle.layout.specs.Push.{State, state, toldIn, after, stepped}
 
 -- ---- runs
 
@@ -26,11 +27,11 @@ pub data Act : Type 0 where
 -- the state after an act: a refused one changes nothing
 abbrev pub act : Act → State → State
 act (push shape) s = after shape s
-act done s = state (told (λ r. s .layout) (doneTests (s .layout)) (stepped (s .layout))) (s .next) (s .ids) (s .values)
+act done s = state (answered reasonNumber (λ r. s .layout) (doneTold (s .layout)) (stepped (s .layout))) (s .next) (s .ids) (s .values)
 
 -- the shapes that an act adds: none where it is refused
 abbrev pub takes : Act → State → List Shape
-takes (push shape) s = told (λ r. []) (testsIn (kindOf shape) s) (shape ∷ [])
+takes (push shape) s = answered reasonNumber (λ r. []) (toldIn (kindOf shape) s) (shape ∷ [])
 takes done s = []
 
 -- the state after a run
@@ -51,7 +52,7 @@ allComponents [] = []
 allComponents (shape ∷ shapes) = components shape ++ allComponents shapes
 
 -- how many of the shapes are of a kind
-abbrev pub howMany : Kind → List Shape → ℕ
+abbrev pub howMany : ShapeKind → List Shape → ℕ
 howMany k [] = 0
 howMany k (shape ∷ shapes) = cond (eqb (stageDue k) (stageDue (kindOf shape))) 1 0 + howMany k shapes
 
@@ -61,14 +62,14 @@ Distinct n ids = (i j : ℕ) → i < n → j < n → getD ids i 0 ≡ getD ids j
 
 -- what the state is after shapes were pushed: each slot holds its id and its component, and the rest is untouched
 pub record Laid (first : State) (shapes : List Shape) (last : State) : Type 0 where
-  pub counts : (k : Kind) → countOf k (last .layout) ≡ howMany k shapes
-  pub slots : slotsOf (last .layout) ≡ length (allComponents shapes)
-  pub next-is : last .next ≡ first .next + slotsOf (last .layout)
-  pub id-at : (i : ℕ) → i < slotsOf (last .layout) → getD (last .ids) i 0 ≡ first .next + i
-  pub distinct : Distinct (slotsOf (last .layout)) (last .ids)
-  pub value-at : (i : ℕ) → i < slotsOf (last .layout) → getD (last .values) i nan ≡ getD (allComponents shapes) i nan
-  pub ids-rest : drop (slotsOf (last .layout)) (last .ids) ≡ drop (slotsOf (last .layout)) (first .ids)
-  pub values-rest : drop (slotsOf (last .layout)) (last .values) ≡ drop (slotsOf (last .layout)) (first .values)
+  pub counts : (k : ShapeKind) → shapesIn k (last .layout) ≡ howMany k shapes
+  pub slots : slotCount (last .layout) ≡ length (allComponents shapes)
+  pub next-is : last .next ≡ first .next + slotCount (last .layout)
+  pub id-at : (i : ℕ) → i < slotCount (last .layout) → getD (last .ids) i 0 ≡ first .next + i
+  pub distinct : Distinct (slotCount (last .layout)) (last .ids)
+  pub value-at : (i : ℕ) → i < slotCount (last .layout) → getD (last .values) i nan ≡ getD (allComponents shapes) i nan
+  pub ids-rest : drop (slotCount (last .layout)) (last .ids) ≡ drop (slotCount (last .layout)) (first .ids)
+  pub values-rest : drop (slotCount (last .layout)) (last .values) ≡ drop (slotCount (last .layout)) (first .values)
   pub ids-length : length (last .ids) ≡ length (first .ids)
   pub values-length : length (last .values) ≡ length (first .values)
 

@@ -4,8 +4,8 @@ use mathlib.Core.List.{List, [], _∷_}
 use lib.Ieee.{Float}
 use Rattle.layout.specs.declared.Stage.{Stage}
 use Rattle.layout.specs.declared.Stage.the-variants.{Points, Circles, Arcs, Done}
-use Rattle.layout.specs.declared.Kind.{Kind}
-use Rattle.layout.specs.declared.Kind.the-variants as K
+use Rattle.layout.specs.declared.ShapeKind.{ShapeKind}
+use Rattle.layout.specs.declared.ShapeKind.the-variants as K
 use Rattle.layout.specs.declared.Layout.{Layout}
 use Rattle.layout.specs.declared.Point.{Point}
 use Rattle.layout.specs.declared.Circle.{Circle}
@@ -20,7 +20,7 @@ pub data Shape : Type 0 where
   arc : Arc → Shape
 
 -- its kind
-abbrev pub kindOf : Shape → Kind
+abbrev pub kindOf : Shape → ShapeKind
 kindOf (point p) = K.Point
 kindOf (circle c) = K.Circle
 kindOf (arc a) = K.Arc
@@ -32,7 +32,7 @@ components (circle c) = c .center .x ∷ c .center .y ∷ c .radius ∷ []
 components (arc a) = a .a .x ∷ a .a .y ∷ a .b .x ∷ a .b .y ∷ a .center .x ∷ a .center .y ∷ []
 
 -- how many slots a shape of a kind has
-abbrev pub sizeOf : Kind → ℕ
+abbrev pub sizeOf : ShapeKind → ℕ
 sizeOf K.Point = 2
 sizeOf K.Circle = 3
 sizeOf K.Arc = 6
@@ -43,18 +43,22 @@ sizeOf K.Arc = 6
 abbrev pub mostShapes : ℕ
 mostShapes = 4000
 
+-- one past the largest id that is given
+abbrev pub idsEnd : ℕ
+idsEnd = 4294967295
+
 -- no shapes yet
 abbrev pub empty : Layout
 empty = record { points = 0; circles = 0; arcs = 0; stage = Points }
 
 -- how many shapes of a kind a layout has
-abbrev pub countOf : Kind → Layout → ℕ
-countOf K.Point l = l .points
-countOf K.Circle l = l .circles
-countOf K.Arc l = l .arcs
+abbrev pub shapesIn : ShapeKind → Layout → ℕ
+shapesIn K.Point l = l .points
+shapesIn K.Circle l = l .circles
+shapesIn K.Arc l = l .arcs
 
 -- the layout with one more of a kind
-abbrev pub withOne : Kind → Layout → Layout
+abbrev pub withOne : ShapeKind → Layout → Layout
 withOne K.Point l = record { points = l .points + 1; circles = l .circles; arcs = l .arcs; stage = l .stage }
 withOne K.Circle l = record { points = l .points; circles = l .circles + 1; arcs = l .arcs; stage = l .stage }
 withOne K.Arc l = record { points = l .points; circles = l .circles; arcs = l .arcs + 1; stage = l .stage }
@@ -67,18 +71,18 @@ abbrev pub mostSlots : ℕ
 mostSlots = mostShapes * (sizeOf K.Point + sizeOf K.Circle + sizeOf K.Arc)
 
 -- how many slots a layout has
-abbrev pub slotsOf : Layout → ℕ
-slotsOf l = l .points * sizeOf K.Point + l .circles * sizeOf K.Circle + l .arcs * sizeOf K.Arc
+abbrev pub slotCount : Layout → ℕ
+slotCount l = l .points * sizeOf K.Point + l .circles * sizeOf K.Circle + l .arcs * sizeOf K.Arc
 
 -- where the slots of a kind begin
-abbrev pub startOf : Kind → Layout → ℕ
-startOf K.Point l = 0
-startOf K.Circle l = l .points * sizeOf K.Point
-startOf K.Arc l = l .points * sizeOf K.Point + l .circles * sizeOf K.Circle
+abbrev pub kindStart : ShapeKind → Layout → ℕ
+kindStart K.Point l = 0
+kindStart K.Circle l = l .points * sizeOf K.Point
+kindStart K.Arc l = l .points * sizeOf K.Point + l .circles * sizeOf K.Circle
 
 -- the first slot of shape i of a kind
-abbrev pub slotOf : Kind → Layout → ℕ → ℕ
-slotOf k l i = startOf k l + i * sizeOf k
+abbrev pub slotOf : ShapeKind → Layout → ℕ → ℕ
+slotOf k l i = kindStart k l + i * sizeOf k
 
 -- no count is over the most
 pub record Small (l : Layout) : Type 0 where
@@ -96,7 +100,7 @@ stageNumber Arcs = 2
 stageNumber Done = 3
 
 -- the number of the stage at which shapes of a kind are pushed
-abbrev pub stageDue : Kind → ℕ
+abbrev pub stageDue : ShapeKind → ℕ
 stageDue K.Point = 0
 stageDue K.Circle = 1
 stageDue K.Arc = 2

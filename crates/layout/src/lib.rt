@@ -2,12 +2,28 @@
 // `push` fills slots, `look` finds a shape's ids and reads it out, and `lent` pushes with the counter of ids lent.
 ghost use mathlib.Core.Path.{_≡_};
 ghost use Rattle.layout.specs.Slots.{empty};
-ghost use Rattle.layout.specs.Refusals.{number};
+use refusal::Refusal;
 
 mod check;
 pub mod lent;
 mod look;
 mod push;
+
+// The most shapes of a kind.
+pub const MOST: usize = 4000;
+
+// How many variables, each in a slot of its own, a shape has.
+pub const VARS_PER_POINT: usize = 2;
+
+pub const VARS_PER_CIRCLE: usize = 3;
+
+pub const VARS_PER_ARC: usize = 6;
+
+// The most slots of a layout.
+pub const SLOTS: usize = MOST * (VARS_PER_POINT + VARS_PER_CIRCLE + VARS_PER_ARC);
+
+// One past the largest id.
+pub const IDS_END: u32 = 4294967295;
 
 // What is pushed now: points, then circles, then arcs, then nothing.
 pub enum Stage {
@@ -26,7 +42,7 @@ pub struct Layout {
 }
 
 // The kinds of shapes.
-pub enum Kind {
+pub enum ShapeKind {
     Point,
     Circle,
     Arc,
@@ -64,16 +80,6 @@ pub struct ArcVars {
     pub start: PointVars,
     pub end: PointVars,
     pub center: PointVars,
-}
-
-// What is refused, 20 to 25 in this order.
-pub enum Refusal {
-    Impossible,
-    WrongStage,
-    Full,
-    Short,
-    NoIds,
-    NoShape,
 }
 
 // A slot, or a refusal.
@@ -129,22 +135,6 @@ pub enum ArcRead {
 // The counter of ids: the next one.
 pub struct Counter {
     pub next: u32,
-}
-
-impl Refusal {
-    // The number that tells it.
-    pub fn number(self) -> u32
-        ensures { λ r. ⌜ r ≡ number self ⌝ }
-    {
-        match self {
-            Refusal::Impossible => 20,
-            Refusal::WrongStage => 21,
-            Refusal::Full => 22,
-            Refusal::Short => 23,
-            Refusal::NoIds => 24,
-            Refusal::NoShape => 25,
-        }
-    }
 }
 
 impl Layout {

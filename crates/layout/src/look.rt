@@ -7,15 +7,15 @@ use crate::Circle;
 use crate::CircleIds;
 use crate::CircleRead;
 use crate::CircleVars;
-use crate::Kind;
 use crate::Layout;
 use crate::Place;
 use crate::Point;
 use crate::PointIds;
 use crate::PointRead;
 use crate::PointVars;
-use crate::check::VARS_PER_ARC;
-use crate::check::VARS_PER_POINT;
+use crate::ShapeKind;
+use crate::VARS_PER_ARC;
+use crate::VARS_PER_POINT;
 use crate::check::look_place;
 ghost use mathlib.Core.Path.{_≡_};
 ghost use Prim.Native.Nat.{_+_, _≤_};
@@ -119,7 +119,7 @@ impl Layout {
     pub fn point_ids(self, ids: &[u32], i: usize) -> PointIds
         ensures { λ r. ⌜ r ≡ pointIds self (now (ids .entry)) i ⌝ }
     {
-        let place = look_place(self, Kind::Point, ids.len(), i);
+        let place = look_place(self, ShapeKind::Point, ids.len(), i);
         match place {
             Place::Not(r) => PointIds::Refused(r),
             Place::At(at) => PointIds::Found(point_vars(ids, at)),
@@ -130,7 +130,7 @@ impl Layout {
     pub fn circle_ids(self, ids: &[u32], i: usize) -> CircleIds
         ensures { λ r. ⌜ r ≡ circleIds self (now (ids .entry)) i ⌝ }
     {
-        let place = look_place(self, Kind::Circle, ids.len(), i);
+        let place = look_place(self, ShapeKind::Circle, ids.len(), i);
         match place {
             Place::Not(r) => CircleIds::Refused(r),
             Place::At(at) => CircleIds::Found(circle_vars(ids, at)),
@@ -141,7 +141,7 @@ impl Layout {
     pub fn arc_ids(self, ids: &[u32], i: usize) -> ArcIds
         ensures { λ r. ⌜ r ≡ arcIds self (now (ids .entry)) i ⌝ }
     {
-        let place = look_place(self, Kind::Arc, ids.len(), i);
+        let place = look_place(self, ShapeKind::Arc, ids.len(), i);
         match place {
             Place::Not(r) => ArcIds::Refused(r),
             Place::At(_) => ArcIds::Found(arc_vars(
@@ -155,7 +155,7 @@ impl Layout {
     pub fn arc_slot_ids(self, ids: &[u32], i: usize) -> ArcIds
         ensures { λ r. ⌜ r ≡ arcSlotIds self (now (ids .entry)) i ⌝ }
     {
-        let place = look_place(self, Kind::Arc, ids.len(), i);
+        let place = look_place(self, ShapeKind::Arc, ids.len(), i);
         match place {
             Place::Not(r) => ArcIds::Refused(r),
             Place::At(at) => ArcIds::Found(arc_vars(ids, at)),
@@ -166,7 +166,7 @@ impl Layout {
     pub fn point(self, values: &[f64], i: usize) -> PointRead
         ensures { λ r. ⌜ r ≡ pointRead self (now (values .entry)) i ⌝ }
     {
-        let place = look_place(self, Kind::Point, values.len(), i);
+        let place = look_place(self, ShapeKind::Point, values.len(), i);
         match place {
             Place::Not(r) => PointRead::Refused(r),
             Place::At(at) => PointRead::Found(point_at(values, at)),
@@ -177,7 +177,7 @@ impl Layout {
     pub fn circle(self, values: &[f64], i: usize) -> CircleRead
         ensures { λ r. ⌜ r ≡ circleRead self (now (values .entry)) i ⌝ }
     {
-        let place = look_place(self, Kind::Circle, values.len(), i);
+        let place = look_place(self, ShapeKind::Circle, values.len(), i);
         match place {
             Place::Not(r) => CircleRead::Refused(r),
             Place::At(at) => CircleRead::Found(circle_at(values, at)),
@@ -188,7 +188,7 @@ impl Layout {
     pub fn arc(self, values: &[f64], i: usize) -> ArcRead
         ensures { λ r. ⌜ r ≡ arcRead self (now (values .entry)) i ⌝ }
     {
-        let place = look_place(self, Kind::Arc, values.len(), i);
+        let place = look_place(self, ShapeKind::Arc, values.len(), i);
         match place {
             Place::Not(r) => ArcRead::Refused(r),
             Place::At(at) => ArcRead::Found(arc_at(values, at)),

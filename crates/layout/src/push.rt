@@ -1,23 +1,24 @@
 // The pushes, and `done`.
 use crate::Arc;
 use crate::Circle;
-use crate::Kind;
 use crate::Layout;
 use crate::Place;
 use crate::Point;
 use crate::Pushed;
-use crate::Refusal;
+use crate::ShapeKind;
 use crate::Stage;
 use crate::Stepped;
+use crate::check::CANNOT_BE;
+use crate::check::WRONG_STAGE;
 use crate::check::is_impossible;
 use crate::check::push_place;
+use crate::check::refused;
 use crate::check::stage_number;
 use crate::check::with_one;
 ghost use mathlib.Core.Path.{_≡_};
 ghost use Prim.Native.Nat.{_+_, _≤_};
 ghost use lib.ListN.{length};
-ghost use Rattle.layout.specs.Slots.{sizeOf, point, circle, arc};
-ghost use Rattle.layout.specs.Refusals.{idsEnd};
+ghost use Rattle.layout.specs.Slots.{sizeOf, idsEnd, point, circle, arc};
 ghost use Rattle.layout.specs.Push.{over, onward, state, Fills, Push, stageAfter, doneOf};
 
 // The number of the last stage.
@@ -40,7 +41,14 @@ fn store(ids: &mut [u32], values: &mut [f64], at: usize, next: u32, guess: &[f64
 }
 
 // Pushes a shape of a kind by its components.
-fn push(l: Layout, k: Kind, next: u32, ids: &mut [u32], values: &mut [f64], guess: &[f64]) -> Pushed
+fn push(
+    l: Layout,
+    k: ShapeKind,
+    next: u32,
+    ids: &mut [u32],
+    values: &mut [f64],
+    guess: &[f64],
+) -> Pushed
     requires { ⌜ length (now guess) ≡ sizeOf k ⌝ }
     ensures { λ r. ⌜ Fills k (now (guess .entry)) (state l next (now (ids .entry)) (now (values .entry))) r (now (ids .exit)) (now (values .exit)) ⌝ }
 {
@@ -72,7 +80,7 @@ impl Layout {
         ensures { λ r. ⌜ Push (point p) (state self next (now (ids .entry)) (now (values .entry))) r (now (ids .exit)) (now (values .exit)) ⌝ }
     {
         let guess = [p.x, p.y];
-        push(self, Kind::Point, next, ids, values, &guess)
+        push(self, ShapeKind::Point, next, ids, values, &guess)
     }
 
     // Pushes a circle.
@@ -80,7 +88,7 @@ impl Layout {
         ensures { λ r. ⌜ Push (circle c) (state self next (now (ids .entry)) (now (values .entry))) r (now (ids .exit)) (now (values .exit)) ⌝ }
     {
         let guess = [c.center.x, c.center.y, c.radius];
-        push(self, Kind::Circle, next, ids, values, &guess)
+        push(self, ShapeKind::Circle, next, ids, values, &guess)
     }
 
     // Pushes an arc.
@@ -88,7 +96,7 @@ impl Layout {
         ensures { λ r. ⌜ Push (arc a) (state self next (now (ids .entry)) (now (values .entry))) r (now (ids .exit)) (now (values .exit)) ⌝ }
     {
         let guess = [a.a.x, a.a.y, a.b.x, a.b.y, a.center.x, a.center.y];
-        push(self, Kind::Arc, next, ids, values, &guess)
+        push(self, ShapeKind::Arc, next, ids, values, &guess)
     }
 
     // Steps from points to circles, to arcs, and to done.
@@ -96,11 +104,11 @@ impl Layout {
         ensures { λ r. ⌜ r ≡ doneOf self ⌝ }
     {
         if is_impossible(self) {
-            return Stepped::Refused(Refusal::Impossible);
+            return Stepped::Refused(refused(CANNOT_BE));
         }
         let stage = self.stage;
         if stage_number(stage) == LAST {
-            return Stepped::Refused(Refusal::WrongStage);
+            return Stepped::Refused(refused(WRONG_STAGE));
         }
         Stepped::Good(Layout {
             points: self.points,

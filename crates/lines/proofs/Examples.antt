@@ -5,13 +5,14 @@ use Prim.Native.Nat.{ℕ}
 use Prim.Native.String.{String}
 use lib.Ieee.{binary64, ofBits, toBits}
 use Rattle.ground.specs.Words.{bytes}
+use Rattle.refusal.specs.Refusal.{refusal}
 use Rattle.print.specs.Print.{lastDigits, hexOf, widthUpTo, decimalOf}
 use Rattle.record.specs.Entry.{Entry}
 use Rattle.reader.specs.declared.Reading.the-variants.{Good, Refused}
 use Rattle.layout.specs.declared.Stage.the-variants.{Done}
 use Rattle.drawing.specs.declared.Checked.the-variants as C
 use Rattle.lowering.specs.declared.Lowered.the-variants as L
-use Rattle.row.specs.Row.{Row, encodeRow, decodeRow, rowOf}
+use Rattle.row.specs.Row.{meant, heldIn, bytesOf, Row, encodeRow, decodeRow, rowOf}
 use Rattle.rail.specs.Words.{joined, quoted, spaced}
 use Rattle.lines.specs.Lines.{firstLine, lineOf}
 use Rattle.lines.specs.Drawn.{checkedLine, loweredLine, slotLine, rowLine}
@@ -51,7 +52,7 @@ listing = refl
 
 pub others :
     joined (
-    firstLine (Refused 10 125)
+    firstLine (Refused (refusal 10 125))
     ∷ lineOf (entry 10 2 ("a" ∷ "b" ∷ "c" ∷ "d" ∷ []) 0x3ff0000000000000 0)
     ∷ lineOf (entry 18 2 ("c" ∷ []) 0 0)
     ∷ lineOf (entry 8 0 ("a" ∷ "b" ∷ "c" ∷ "d" ∷ []) 0 0)
@@ -72,9 +73,9 @@ row kind third ids bits = decodeRow (encodeRow (record { kind = kind; third = th
 pub lowering :
     joined (
     checkedLine (C.Passed 2 1 1 11)
-    ∷ checkedLine (C.Refused 32 1)
+    ∷ checkedLine (C.Refused (refusal 32 1))
     ∷ loweredLine (L.Good (record { points = 2; circles = 1; arcs = 1; stage = Done }) 13 11)
-    ∷ loweredLine (L.Refused 31 1)
+    ∷ loweredLine (L.Refused (refusal 31 1))
     ∷ slotLine 6 (ofBits binary64 0x4000000000000000)
     ∷ rowLine (row 4 1 (0 ∷ []) 0)
     ∷ rowLine (row 18 2 (12 ∷ []) 0x3ff0000000000000)
@@ -96,5 +97,5 @@ pub lowering :
     ∷ "row 15 4 5 6 4000000000000000"
     ∷ "row 0"
     ∷ [])
-unfolding checkedLine loweredLine slotLine rowLine decodeRow encodeRow rowOf lineOf spaced decimalOf hexOf lastDigits widthUpTo toBits ofBits
+unfolding checkedLine loweredLine slotLine rowLine meant heldIn bytesOf encodeRow rowOf lineOf spaced decimalOf hexOf lastDigits widthUpTo toBits ofBits
 lowering = refl

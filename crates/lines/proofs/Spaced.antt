@@ -1,28 +1,24 @@
 -- The laws of the words of a line. Assumes nothing.
-use mathlib.Core.Path.{_≡_, refl, sym, ap, _∙_}
+use mathlib.Core.Path.{_≡_, refl, sym, _∙_}
 use mathlib.Core.List.{List, [], _∷_, _++_, append-assoc}
-use Prim.Native.Nat.{ℕ, zero, suc, _+_, _-_, _/_, _≤_, _<_}
+use Prim.Native.Nat.{ℕ, _+_, _-_, _≤_, _<_}
 use native.Mathlib.Omega.{arith}
 use lib.ListN.{length, take, drop, length-drop, drop-of-length-le}
 use lib.Seq.{take-all, take-nil}
 use borrow.Author.Tests.{eq-eqb, ne-eqb}
 use Rattle.ground.specs.Words.{bytes}
+use Rattle.refusal.specs.declared.Refusal.{Refusal}
 use Rattle.print.specs.Print.{hexOf, decimalOf}
+use Rattle.record.specs.declared.View.{View}
 use Rattle.record.specs.declared.Record.{Record}
 use Rattle.rail.proofs.Spaced.{spaced-append}
 use Rattle.record.specs.Kinds.{kindAt, none, pair}
-use Rattle.record.specs.Entry.{startOf, lenOf, named, upTo, entryOf}
+use Rattle.record.specs.Entry.{viewOf, named, upTo, entryOf}
+use Rattle.record.proofs.UpTo.{up-to-more}
 use Rattle.lines.specs.declared.words.Part.{Part}
 use Rattle.rail.specs.Words.{newline, spaced}
 use Rattle.lines.specs.Lines.{goodLine, refusedLine, thirdWord, thirdOf, numbersOf, lineOf}
 use Rattle.lines.specs.Steps.{Lies}
-
--- one label more
-up-to-more : {A : Type 0} (n : ℕ) (f : ℕ → A) → upTo (n + 1) f ≡ upTo n f ++ (f n ∷ [])
-up-to-more zero f = refl
-up-to-more (suc n) f =
-    let e : suc n + 1 ≡ suc (n + 1) = omega arith in
-    rw e (ap (λ l. f zero ∷ l) (up-to-more n (λ k. f (suc k))))
 
 -- ---- the part of a text that lies inside it
 
@@ -48,9 +44,9 @@ whole size start len h =
     record { ordered = omega arith; inside = omega arith; is = λ text f. rw e }
 
 -- the label that the part is
-pub label-is : (text : List ℕ) (r : Record) (q : ℕ) {start len : ℕ} (l : Part) → start ≡ startOf r q → len ≡ lenOf r q → Lies (length text) start len l
+pub label-is : (text : List ℕ) (r : Record) (q : ℕ) (v : View) (l : Part) → v ≡ viewOf r q → Lies (length text) (v .start) (v .len) l
     → spaced (take (l .end - l .start) (drop (l .start) text) ∷ []) ≡ spaced (named text r q ∷ [])
-label-is text r q l e f h = rw (h .is text refl, e, f)
+label-is text r q v l e h = rw (h .is text refl, e)
 
 -- ---- lines
 
@@ -70,8 +66,8 @@ pub good-is : (i g e : ℕ)
     ≡ goodLine i g e
 good-is i g e = three-parts (bytes "instructions") (decimalOf i ∷ []) (bytes "guesses" ∷ decimalOf g ∷ []) (bytes "end" ∷ decimalOf e ∷ []) newline
 
-pub refused-is : (n p : ℕ) → bytes "refused" ++ spaced (decimalOf n ∷ []) ++ spaced (decimalOf p ∷ []) ++ newline ≡ refusedLine n p
-refused-is n p = two-parts (bytes "refused") (decimalOf n ∷ []) (decimalOf p ∷ []) newline
+pub refused-is : (r : Refusal) → bytes "refused" ++ spaced (decimalOf (r .number) ∷ []) ++ spaced (decimalOf (r .place) ∷ []) ++ newline ≡ refusedLine r
+refused-is r = two-parts (bytes "refused") (decimalOf (r .number) ∷ []) (decimalOf (r .place) ∷ []) newline
 
 -- the numbers, by their sort
 module _ (n x y : ℕ) where

@@ -1,18 +1,18 @@
 -- The laws of the lines that tell of a drawing: their words one after the other, and a row's ids. Assumes nothing.
 use mathlib.Core.Path.{_≡_, refl, ap, _∙_}
 use mathlib.Core.List.{List, [], _∷_, _++_, map, append-assoc}
-use Prim.Native.Nat.{ℕ, zero, suc, _+_, _-_, _*_, _/_, _≤_, _<_}
+use Prim.Native.Nat.{ℕ, zero, suc, _+_, _-_, _≤_}
 use native.Mathlib.Decide.{decLe}
 use native.Mathlib.Omega.{arith}
-use lib.ListN.{length, take, drop, replicate}
+use lib.ListN.{getD}
 use lib.Ieee.{Float, binary64, toBits}
 use borrow.Author.Tests.{lt-ltb, le-ltb}
 use Rattle.ground.specs.Words.{bytes}
 use Rattle.print.specs.Print.{decimalOf, hexOf}
-use Rattle.record.specs.Decode.{byte, u64}
 use Rattle.record.specs.Kinds.{kindAt}
 use Rattle.record.specs.Entry.{upTo}
-use Rattle.row.specs.Row.{rowBytes, mostIds, idAt, idsIn, decodeRow, rowOf}
+use Rattle.row.specs.declared.Row.{Row as Held}
+use Rattle.row.specs.Row.{meant, mostIds, idsIn}
 use Rattle.rail.specs.Words.{newline, spaced}
 use Rattle.lines.specs.Lines.{thirdOf, numbersOf, lineOf}
 use Rattle.lines.specs.Drawn.{tallyLine, slotLine, rowLine}
@@ -38,38 +38,25 @@ slot-is id value b e = rw e (two-parts (bytes "slot") (decimalOf id ∷ []) (hex
 -- ---- a row
 
 -- a row has at most eight ids
-pub ids-most : (b : List ℕ) → idsIn b ≤ mostIds
-ids-most b = elim (decLe (byte b 2) mostIds) [
-  | yes h ↦ rw (le-ltb mostIds (byte b 2) h) h
-  | no f ↦ rw (lt-ltb mostIds (byte b 2) (omega arith)) (omega arith)
+pub ids-most : (r : Held) → idsIn r ≤ mostIds
+ids-most r = elim (decLe (r .count) mostIds) [
+  | yes h ↦ rw (le-ltb mostIds (r .count) h) h
+  | no f ↦ rw (lt-ltb mostIds (r .count) (omega arith)) (omega arith)
 ]
 
 map-up-to : {A B : Type 0} (g : A → B) (n : ℕ) (f : ℕ → A) → map g (upTo n f) ≡ upTo n (λ q. g (f q))
 map-up-to g zero f = refl
 map-up-to g (suc n) f = ap (λ l. g (f zero) ∷ l) (map-up-to g n (λ k. f (suc k)))
 
-pub row-is : (b : List ℕ) (x : ℕ) → x ≡ u64 b 36
-    → bytes "row " ++ (decimalOf (byte b 1) ++ spaced (upTo (idsIn b) (λ q. decimalOf (idAt b q))))
-    ++ (spaced (thirdOf (byte b 1) (byte b 3) ++ numbersOf (kindAt (byte b 1) .number) x 0) ++ newline)
-    ≡ rowLine (decodeRow b)
-unfolding rowLine decodeRow lineOf
-row-is b x e =
-    let ids = upTo (idsIn b) (λ q. decimalOf (idAt b q)) in
-    let third = thirdOf (byte b 1) (byte b 3) in
-    let number = numbersOf (kindAt (byte b 1) .number) (u64 b 36) 0 in
-    rw (e, map-up-to decimalOf (idsIn b) (idAt b))
-    (append-assoc (bytes "row ") (decimalOf (byte b 1) ++ spaced ids) (spaced (third ++ number) ++ newline)
-    ∙ ap (λ (l : List ℕ). bytes "row " ++ l) (line-parts (decimalOf (byte b 1)) ids third number newline))
-
--- ---- the bytes of a row
-
--- past the last whole row, and inside
-pub row-past : (bs : List ℕ) (k : ℕ) → length bs / rowBytes ≤ k → rowOf bs k ≡ replicate rowBytes 0
-unfolding rowOf
-row-past bs k h = rw (le-ltb k (length bs / rowBytes) h)
-
-pub row-part : (bs : List ℕ) (k : ℕ) → k < length bs / rowBytes → take (k * rowBytes + rowBytes - k * rowBytes) (drop (k * rowBytes) bs) ≡ rowOf bs k
-unfolding rowOf
-row-part bs k h =
-    let e : k * rowBytes + rowBytes - k * rowBytes ≡ rowBytes = omega arith in
-    rw (lt-ltb k (length bs / rowBytes) h, e)
+pub row-is : (r : Held)
+    → bytes "row " ++ (decimalOf (r .kind) ++ spaced (upTo (idsIn r) (λ q. decimalOf (getD (r .ids) q 0))))
+    ++ (spaced (thirdOf (r .kind) (r .third) ++ numbersOf (kindAt (r .kind) .number) (r .bits) 0) ++ newline)
+    ≡ rowLine (meant r)
+unfolding rowLine meant lineOf
+row-is r =
+    let ids = upTo (idsIn r) (λ q. decimalOf (getD (r .ids) q 0)) in
+    let third = thirdOf (r .kind) (r .third) in
+    let number = numbersOf (kindAt (r .kind) .number) (r .bits) 0 in
+    rw (map-up-to decimalOf (idsIn r) (λ q. getD (r .ids) q 0))
+    (append-assoc (bytes "row ") (decimalOf (r .kind) ++ spaced ids) (spaced (third ++ number) ++ newline)
+    ∙ ap (λ (l : List ℕ). bytes "row " ++ l) (line-parts (decimalOf (r .kind)) ids third number newline))

@@ -4,6 +4,7 @@ use mathlib.Core.List.{List, [], _∷_, _++_}
 use Prim.Native.Nat.{ℕ}
 use lib.Dec.{eqb}
 use Rattle.ground.specs.Words.{bytes}
+use Rattle.refusal.specs.declared.Refusal.{Refusal}
 use Rattle.print.specs.Print.{decimalOf, hexOf}
 use Rattle.record.specs.Kinds.{kindAt, none, angle, pair}
 use Rattle.record.specs.Entry.{Entry}
@@ -17,13 +18,13 @@ abbrev pub goodLine : ℕ → ℕ → ℕ → List ℕ
 goodLine instructions guesses end =
     lineWith (bytes "instructions") (decimalOf instructions ∷ bytes "guesses" ∷ decimalOf guesses ∷ bytes "end" ∷ decimalOf end ∷ [])
 
-abbrev pub refusedLine : ℕ → ℕ → List ℕ
-refusedLine number place = lineWith (bytes "refused") (decimalOf number ∷ decimalOf place ∷ [])
+abbrev pub refusedLine : Refusal → List ℕ
+refusedLine r = lineWith (bytes "refused") (decimalOf (r .number) ∷ decimalOf (r .place) ∷ [])
 
 -- what a reading gave
 unfoldable pub firstLine : Reading → List ℕ
 firstLine (Good instructions guesses end) = goodLine instructions guesses end
-firstLine (Refused number place) = refusedLine number place
+firstLine (Refused r) = refusedLine r
 
 -- ---- a record's line
 

@@ -1,23 +1,20 @@
 // The words of the lines that tell of a drawing, added one after the other.
 ghost use mathlib.Core.Path.{_≡_};
 ghost use mathlib.Core.List.{[], _∷_, _++_};
-ghost use Prim.Native.Nat.{_+_, _<_};
-ghost use lib.ListN.{length};
+ghost use lib.ListN.{getD};
 ghost use Rattle.print.specs.Print.{decimalOf};
-ghost use Rattle.record.specs.Decode.{byte, u64};
-ghost use Rattle.record.specs.Entry.{upTo};
-ghost use Rattle.bytes.specs.Little.{u32};
-ghost use Rattle.row.specs.Row.{rowBytes, mostIds, idAt, idsIn, decodeRow};
 ghost use Rattle.rail.specs.Words.{spaced};
-ghost use Rattle.lines.specs.Drawn.{tallyLine, checkedLine, loweredLine, slotLine, Wide, rowLine};
+ghost use Rattle.rail.specs.Rail.{Prints};
 ghost use Rattle.rail.specs.Steps.{Adds};
+ghost use Rattle.record.specs.Entry.{upTo};
+ghost use Rattle.row.specs.Row.{idsIn, meant};
+ghost use Rattle.lines.specs.Drawn.{tallyLine, checkedLine, loweredLine, slotLine, rowLine};
 use super::words;
 use drawing::Checked;
 use lowering::Lowered;
 use rail::Place;
-
-// The most ids of a row.
-const MOST: usize = 8;
+use row::MOST_IDS;
+use row::Row;
 
 // The line of a word, the counts of shapes, and one number more with its name.
 fn tally_line(
@@ -62,7 +59,7 @@ pub(crate) fn checked(c: Checked, buf: &mut [u8], write: bool, p: Place) -> Plac
             write,
             p,
         ),
-        Checked::Refused { number, place } => words::refused_line(number, place, buf, write, p),
+        Checked::Refused(refusal) => words::refused_line(refusal, buf, write, p),
     }
 }
 
@@ -86,7 +83,7 @@ pub(crate) fn lowered(l: Lowered, buf: &mut [u8], write: bool, p: Place) -> Plac
             write,
             p,
         ),
-        Lowered::Refused { number, place } => words::refused_line(number, place, buf, write, p),
+        Lowered::Refused(refusal) => words::refused_line(refusal, buf, write, p),
     }
 }
 
@@ -100,62 +97,41 @@ pub(crate) fn slot(id: u32, value: f64, buf: &mut [u8], write: bool, p: Place) -
     rail::add(buf, write, p, b"\n")
 }
 
-// The number of four bytes, the lowest first.
-fn u32_at(b: &[u8], k: usize) -> u64
-    requires { ⌜ k + 3 < length (now b) ⌝ }
-    ensures { λ r. ⌜ Wide (u32 (now (b .entry)) k) r ⌝ }
-{
-    let low = (b[k] as u64) + (b[k + 1] as u64) * 256;
-    let high = (b[k + 2] as u64) + (b[k + 3] as u64) * 256;
-    low + high * 65_536
-}
-
-// The bits of a row's number.
-fn bits_of(b: &[u8]) -> u64
-    requires { ⌜ length (now b) ≡ rowBytes ⌝ }
-    ensures { λ r. ⌜ r ≡ u64 (now (b .entry)) 36 ⌝ }
-{
-    u32_at(b, 36) + u32_at(b, 40) * 4_294_967_296
-}
-
 // How many ids a row has, eight at most.
-fn ids_in(b: &[u8]) -> usize
-    requires { ⌜ length (now b) ≡ rowBytes ⌝ }
-    ensures { λ r. ⌜ r ≡ idsIn (now (b .entry)) ⌝ }
+fn ids_in(r: Row) -> usize
+    ensures { λ n. ⌜ n ≡ idsIn r ⌝ }
 {
-    let count = b[2] as usize;
-    if MOST < count { MOST } else { count }
+    let count = r.count as usize;
+    if MOST_IDS < count { MOST_IDS } else { count }
 }
 
-// Adds a blank and id q of a row.
-fn id_word(b: &[u8], q: usize, buf: &mut [u8], write: bool, p: Place) -> Place
-    requires { ⌜ (length (now b) ≡ rowBytes) × (q < mostIds) ⌝ }
-    ensures { λ r. ⌜ Adds write (now (buf .entry)) p (spaced (decimalOf (idAt (now (b .entry)) q) ∷ [])) r (now (buf .exit)) ⌝ }
+// Adds a blank and an id.
+fn id_word(id: u32, buf: &mut [u8], write: bool, p: Place) -> Place
+    ensures { λ n. ⌜ Prints write (now (buf .entry)) p (spaced (decimalOf id ∷ [])) n (now (buf .exit)) ⌝ }
 {
-    rail::decimal_word(buf, write, p, u32_at(b, 4 + q * 4))
+    rail::decimal_word(buf, write, p, id as u64)
 }
 
 // Adds a row's kind and its ids.
-fn row_opening(b: &[u8], buf: &mut [u8], write: bool, p: Place) -> Place
-    requires { ⌜ length (now b) ≡ rowBytes ⌝ }
-    ensures { λ r. ⌜ Adds write (now (buf .entry)) p (decimalOf (byte (now (b .entry)) 1) ++ spaced (upTo (idsIn (now (b .entry))) (λ q. decimalOf (idAt (now (b .entry)) q)))) r (now (buf .exit)) ⌝ }
+fn row_opening(r: Row, buf: &mut [u8], write: bool, p: Place) -> Place
+    ensures { λ n. ⌜ Adds write (now (buf .entry)) p (decimalOf (r .kind) ++ spaced (upTo (idsIn r) (λ q. decimalOf (getD (r .ids) q 0)))) n (now (buf .exit)) ⌝ }
 {
-    let mut n = rail::decimal(buf, write, p, b[1] as u64);
-    let count = ids_in(b);
+    let ids = r.ids;
+    let mut n = rail::decimal(buf, write, p, r.kind as u64);
+    let count = ids_in(r);
     let mut q = 0;
     while q < count {
-        n = id_word(b, q, buf, write, n);
+        n = id_word(ids[q], buf, write, n);
         q += 1;
     }
     n
 }
 
-// A row's line, from its bytes.
-pub(crate) fn row(b: &[u8], buf: &mut [u8], write: bool, p: Place) -> Place
-    requires { ⌜ length (now b) ≡ rowBytes ⌝ }
-    ensures { λ r. ⌜ Adds write (now (buf .entry)) p (rowLine (decodeRow (now (b .entry)))) r (now (buf .exit)) ⌝ }
+// A row's line.
+pub(crate) fn row(r: Row, buf: &mut [u8], write: bool, p: Place) -> Place
+    ensures { λ n. ⌜ Adds write (now (buf .entry)) p (rowLine (meant r)) n (now (buf .exit)) ⌝ }
 {
     let p = rail::add(buf, write, p, b"row ");
-    let p = row_opening(b, buf, write, p);
-    words::from_third(b[1], b[3], bits_of(b), 0, buf, write, p)
+    let p = row_opening(r, buf, write, p);
+    words::from_third(r.kind, r.third, r.bits, 0, buf, write, p)
 }

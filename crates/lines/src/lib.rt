@@ -3,17 +3,14 @@
 mod drawn;
 mod words;
 
-ghost use mathlib.Core.Path.{_≡_};
-ghost use lib.ListN.{length};
 ghost use Rattle.record.specs.Decode.{decodeAt};
 ghost use Rattle.record.specs.Entry.{entryOf};
 ghost use Rattle.lines.specs.Lines.{firstLine, lineOf};
-ghost use Rattle.row.specs.Row.{rowBytes, decodeRow, rowOf};
+ghost use Rattle.row.specs.Row.{decodeRow, rowOf};
 ghost use Rattle.lines.specs.Drawn.{checkedLine, loweredLine, slotLine, rowLine};
 ghost use Rattle.rail.specs.Rail.{Prints};
 use drawing::Checked;
 use lowering::Lowered;
-use row::ROW;
 use rail::Place;
 use reader::Reading;
 
@@ -80,27 +77,14 @@ pub fn slot_line(id: u32, value: f64, buf: &mut [u8], write: bool, p: Place) -> 
     drawn::slot(id, value, buf, write, p)
 }
 
-// Writes the line of a row from its bytes; where it has no room, the buffer stays as it was.
-fn line_of(b: &[u8], buf: &mut [u8], write: bool, p: Place) -> Place
-    requires { ⌜ length (now b) ≡ rowBytes ⌝ }
-    ensures { λ r. ⌜ Prints write (now (buf .entry)) p (rowLine (decodeRow (now (b .entry)))) r (now (buf .exit)) ⌝ }
-{
-    let m = drawn::row(b, buf, false, p);
-    let Place::At(_) = m else {
-        return m;
-    };
-    drawn::row(b, buf, write, p)
-}
-
 // Writes the line of row k of a list, and of a row of zeros past the last; where it has no room, the buffer stays as it was.
 pub fn row_line(rows: &[u8], k: usize, buf: &mut [u8], write: bool, p: Place) -> Place
     ensures { λ r. ⌜ Prints write (now (buf .entry)) p (rowLine (decodeRow (rowOf (now (rows .entry)) k))) r (now (buf .exit)) ⌝ }
 {
-    if rows.len() / ROW <= k {
-        let none = [0u8; ROW];
-        return line_of(&none, buf, write, p);
-    }
-    let start = k * ROW;
-    let end = start + ROW;
-    line_of(&rows[start..end], buf, write, p)
+    let row = row::decode_row(rows, k);
+    let m = drawn::row(row, buf, false, p);
+    let Place::At(_) = m else {
+        return m;
+    };
+    drawn::row(row, buf, write, p)
 }

@@ -3,24 +3,25 @@ ghost use mathlib.Core.Path.{_≡_};
 ghost use mathlib.Core.Bool.{cond};
 ghost use mathlib.Core.List.{[], _∷_, _++_};
 ghost use lib.Dec.{eqb};
+ghost use lib.ListN.{getD};
 ghost use Rattle.print.specs.Print.{decimalOf};
 ghost use Rattle.record.specs.Kinds.{kindAt};
-ghost use Rattle.record.specs.Entry.{startOf, lenOf, named, upTo, entryOf};
+ghost use Rattle.record.specs.Entry.{noView, named, upTo, entryOf};
 ghost use Rattle.rail.specs.Words.{newline, spaced};
 ghost use Rattle.lines.specs.Lines.{firstWord, thirdWord, thirdOf, numbersOf, goodLine, refusedLine, firstLine, lineOf};
 ghost use Rattle.rail.specs.Steps.{Adds};
 ghost use Rattle.lines.specs.Steps.{Lies};
 use rail::Place;
 use reader::Reading;
+use record::PLACES;
 use record::Record;
+use record::View;
 use record::kinds;
 use record::kinds::KINDS;
+use refusal::Refusal;
 
 // The first of the words that a third byte may stand for.
 const FIRST: u8 = 1;
-
-// The label places of a record.
-const LABELS: usize = 4;
 
 // A part of a text, by its start and its end.
 struct Part {
@@ -55,12 +56,12 @@ fn good_line(
 }
 
 // The line of a refusal.
-pub(crate) fn refused_line(number: u8, place: usize, buf: &mut [u8], write: bool, p: Place) -> Place
-    ensures { λ r. ⌜ Adds write (now (buf .entry)) p (refusedLine number place) r (now (buf .exit)) ⌝ }
+pub(crate) fn refused_line(refusal: Refusal, buf: &mut [u8], write: bool, p: Place) -> Place
+    ensures { λ r. ⌜ Adds write (now (buf .entry)) p (refusedLine refusal) r (now (buf .exit)) ⌝ }
 {
     let p = rail::add(buf, write, p, b"refused");
-    let p = rail::decimal_word(buf, write, p, number as u64);
-    let p = rail::decimal_word(buf, write, p, place as u64);
+    let p = rail::decimal_word(buf, write, p, refusal.number as u64);
+    let p = rail::decimal_word(buf, write, p, refusal.place as u64);
     rail::add(buf, write, p, b"\n")
 }
 
@@ -74,7 +75,7 @@ pub(crate) fn reading_line(reading: Reading, buf: &mut [u8], write: bool, p: Pla
             guesses,
             end,
         } => good_line(instructions, guesses, end, buf, write, p),
-        Reading::Refused { number, place } => refused_line(number, place, buf, write, p),
+        Reading::Refused(refusal) => refused_line(refusal, buf, write, p),
     }
 }
 
@@ -97,33 +98,23 @@ fn inside(size: usize, start: usize, len: usize) -> Part
     }
 }
 
-// Where label q of a record starts.
-fn start_of(r: Record, q: usize) -> usize
-    ensures { λ n. ⌜ n ≡ startOf r q ⌝ }
+// Label place q of a record's labels, and an empty part past the last.
+fn view_of(labels: [View; 4], q: usize) -> View
+    ensures { λ v. ⌜ v ≡ getD labels q noView ⌝ }
 {
-    if LABELS <= q {
-        return 0;
+    if PLACES <= q {
+        return View { start: 0, len: 0 };
     }
-    let starts = [r.start0, r.start1, r.start2, r.start3];
-    starts[q]
-}
-
-// The length of label q of a record.
-fn len_of(r: Record, q: usize) -> usize
-    ensures { λ n. ⌜ n ≡ lenOf r q ⌝ }
-{
-    if LABELS <= q {
-        return 0;
-    }
-    let lens = [r.len0, r.len1, r.len2, r.len3];
-    lens[q]
+    labels[q]
 }
 
 // Adds a blank and label q of a record.
 fn label_word(text: &[u8], r: Record, q: usize, buf: &mut [u8], write: bool, p: Place) -> Place
     ensures { λ n. ⌜ Adds write (now (buf .entry)) p (spaced (named (now (text .entry)) r q ∷ [])) n (now (buf .exit)) ⌝ }
 {
-    let l = inside(text.len(), start_of(r, q), len_of(r, q));
+    let labels = r.labels;
+    let v = view_of(labels, q);
+    let l = inside(text.len(), v.start, v.len);
     let start = l.start;
     let end = l.end;
     rail::word(buf, write, p, &text[start..end])

@@ -7,10 +7,10 @@ use native.Mathlib.Decide.{decLt}
 use native.Mathlib.Omega.{arith}
 use lib.ListN.{List·getD-eq-default, length, getD, take, drop, length-map}
 use lib.Seq.{take-length, getD-at}
-use Rattle.layout.specs.Refusals.{idsEnd}
+use Rattle.layout.specs.Slots.{idsEnd}
+use Rattle.record.specs.Kinds.{Rule, firstRule, lastRule}
 use Rattle.record.specs.Entry.{Label, Entry, noEntry, entryAt}
 use Rattle.index.specs.Labels.{kindNo, within}
-use Rattle.drawing.specs.Faults.{Rule}
 use Rattle.ground.specs.Lists.{flat}
 use Rattle.lowering.specs.Slots.{slots}
 use Rattle.row.proofs.Back.{length-row, id-read}
@@ -27,11 +27,11 @@ use Rattle.lowering.proofs.Rows.{ids-few, carries}
 
 module _ (es : List Entry) (i : ℕ) (h : i < length es) (u : Rule (kindNo es i)) where
   pub rule-inside : rulesBefore es i < length (rulesOf es)
-  rule-inside = picks-inside _ _ _ _ rules-pick es i h (says-within 4 23 (kindNo es i) .back u)
+  rule-inside = picks-inside _ _ _ _ rules-pick es i h (says-within firstRule lastRule (kindNo es i) .back u)
 
   pub rule-at : getD (rulesOf es) (rulesBefore es i) noEntry ≡ entryAt es i
   rule-at =
-      ap (λ (l : List Entry). getD l (rulesBefore es i) noEntry) (picks-around _ _ _ rules-pick es i noEntry h (says-within 4 23 (kindNo es i) .back u))
+      ap (λ (l : List Entry). getD l (rulesBefore es i) noEntry) (picks-around _ _ _ rules-pick es i noEntry h (says-within firstRule lastRule (kindNo es i) .back u))
       ∙ getD-at (rulesOf (take i es)) (entryAt es i) (rulesOf (drop (suc i) es)) noEntry (rulesBefore es i) (rules-before es i (omega (arith, h)))
 
 -- ---- all rows
@@ -39,14 +39,14 @@ module _ (es : List Entry) (i : ℕ) (h : i < length es) (u : Rule (kindNo es i)
 -- the rows of the first records, one record more
 pub rows-more : (es : List Entry) (next i : ℕ) → i < length es
     → encodeRows (map (rowFor es next) (rulesOf (take (suc i) es)))
-    ≡ encodeRows (map (rowFor es next) (rulesOf (take i es))) ++ cond (within 4 23 (kindNo es i)) (encodeRow (rowFor es next (entryAt es i))) []
+    ≡ encodeRows (map (rowFor es next) (rulesOf (take i es))) ++ cond (within firstRule lastRule (kindNo es i)) (encodeRow (rowFor es next (entryAt es i))) []
 rows-more es next i h =
     let f = rowFor es next in
-    let more = cond (within 4 23 (kindNo es i)) (entryAt es i ∷ []) [] in
+    let more = cond (within firstRule lastRule (kindNo es i)) (entryAt es i ∷ []) [] in
     ap (λ (l : List Entry). encodeRows (map f l)) (picks-suc _ _ _ rules-pick es i noEntry h)
     ∙ ap encodeRows (map-append f (rulesOf (take i es)) more)
     ∙ flat-append encodeRow (map f (rulesOf (take i es))) (map f more)
-    ∙ ap (λ (l : List ℕ). encodeRows (map f (rulesOf (take i es))) ++ l) (go (within 4 23 (kindNo es i)))
+    ∙ ap (λ (l : List ℕ). encodeRows (map f (rulesOf (take i es))) ++ l) (go (within firstRule lastRule (kindNo es i)))
   where
     go : (b : Bool) → encodeRows (map (rowFor es next) (cond b (entryAt es i ∷ []) [])) ≡ cond b (encodeRow (rowFor es next (entryAt es i))) []
     go true = append-nil (encodeRow (rowFor es next (entryAt es i)))

@@ -12,6 +12,7 @@ use Rattle.refusal.proofs.Says.{Says, says-and, says-eq, says-le, says-iff, say
 use Rattle.layout.specs.Slots as layout
 use Rattle.layout.proofs.Laws.{can-be}
 use Rattle.layout.specs.Refusals.{impossible}
+use Rattle.record.specs.Kinds.{firstRule, lastRule}
 use Rattle.record.specs.Entry.{Label, Entry, noEntry, entryAt, labelNo}
 use Rattle.index.specs.Labels.{kindNo, within}
 use Rattle.drawing.specs.Needs.{Shape, point, circle, arc, declaring}
@@ -36,7 +37,7 @@ labels-pick s = record {
   next = λ e es. ap (λ (b : Bool). cond b (labelNo e 0 ∷ labelsOf s es) (labelsOf s es)) (sym (within-one (declaring s) (e .kind)));
 }
 
-pub rules-pick : Picks (λ (e : Entry). within 4 23 (e .kind)) (λ e. e) rulesOf
+pub rules-pick : Picks (λ (e : Entry). within firstRule lastRule (e .kind)) (λ e. e) rulesOf
 rules-pick = record { none = refl; next = λ e es. refl }
 
 -- ---- how many are picked out of the first n
@@ -109,7 +110,7 @@ pub length-of : (s : Shape) (es : List Entry) → length (slotsOf s es) ≡ leng
 length-of s es = length-flat (slotsOfShape s) (size s) (labelsOf s es) (each-of (λ l. length (slotsOfShape s l) ≡ size s) (labelsOf s es) [] (λ j h. length-shape s _))
 
 module _ (es : List Entry) where
-  pub length-slots : length (slots es) ≡ layout.slotsOf (layoutOf es)
+  pub length-slots : length (slots es) ≡ layout.slotCount (layoutOf es)
   unfolding slots
   length-slots =
       length-append (slotsOf point es) (slotsOf circle es ++ slotsOf arc es)

@@ -13,14 +13,13 @@ use Rattle.ground.proofs.Lists.{and-second}
 use Rattle.refusal.specs.First.{EachBelow}
 use Rattle.layout.specs.declared.Layout.{Layout}
 use Rattle.layout.specs.Slots as layout
-use Rattle.layout.specs.Refusals.{idsEnd}
+use Rattle.layout.specs.Slots.{idsEnd}
 use Rattle.layout.specs.Push.{onward}
 use Rattle.layout.proofs.Onward.{length-onward, getD-onward}
-use Rattle.record.specs.Record.{recordBytes}
+use Rattle.record.specs.Record.{recordBytes, mostRecords, longestText}
 use Rattle.record.specs.Decode.{countOf, recordOf}
 use Rattle.record.specs.Entry.{Entry, noEntry, upTo}
-use Rattle.record.specs.Sound.{longest}
-use Rattle.record.specs.Formed.{most, entry, entries}
+use Rattle.record.specs.Formed.{entry, entries}
 use Rattle.record.proofs.UpTo.{length-up-to}
 use Rattle.drawing.specs.Needs.{point, circle, arc}
 use Rattle.lowering.specs.declared.Lowered.{Lowered}
@@ -43,20 +42,20 @@ use Rattle.lowering.proofs.Bytes.{rule-inside, row-of}
 
 pub entries-few : (text bs : List ℕ) → length (entries text bs) ≤ layout.mostShapes
 unfolding entries
-entries-few text bs = go (leb (length text) longest && leb (countOf bs) most) refl
+entries-few text bs = go (leb (length text) longestText && leb (countOf bs) mostRecords) refl
   where
     piece : (b : Bool) → length (cond b [] (noEntry ∷ [])) ≤ 1
     piece true = omega arith
     piece false = omega arith
 
-    go : (b : Bool) → (leb (length text) longest && leb (countOf bs) most) ≡ b
+    go : (b : Bool) → (leb (length text) longestText && leb (countOf bs) mostRecords) ≡ b
         → length (cond b (upTo (countOf bs) (λ i. entry text (recordOf bs i)) ++ cond (eqb (length bs % recordBytes) 0) [] (noEntry ∷ [])) (noEntry ∷ [])) ≤ layout.mostShapes
     go true e =
         let front = upTo (countOf bs) (λ i. entry text (recordOf bs i)) in
         let rest = cond (eqb (length bs % recordBytes) 0) [] (noEntry ∷ []) in
         omega (
           arith,
-          leb-true (countOf bs) most (and-second (leb (length text) longest) (leb (countOf bs) most) e),
+          leb-true (countOf bs) mostRecords (and-second (leb (length text) longestText) (leb (countOf bs) mostRecords) e),
           length-append front rest,
           length-up-to (countOf bs) (λ i. entry text (recordOf bs i)),
           piece (eqb (length bs % recordBytes) 0),

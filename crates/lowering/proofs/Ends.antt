@@ -9,12 +9,16 @@ use lib.Dec.{ltb}
 use borrow.Author.Tests.{ltb-false}
 use lib.ListN.{length}
 use lib.Ieee.{Float}
+use Rattle.refusal.specs.declared.Refusal.{Refusal}
+use Rattle.refusal.specs.Refusal.{refusal}
 use Rattle.refusal.specs.First.{Answer, passed, refused}
 use Rattle.layout.specs.declared.Layout.{Layout}
-use Rattle.layout.specs.Refusals.{idsEnd}
+use Rattle.layout.specs.Slots.{idsEnd}
 use Rattle.layout.specs.Push.{onward}
+use Rattle.record.specs.Record.{mostRecords}
+use Rattle.record.specs.Kinds.{firstRule, lastRule}
 use Rattle.record.specs.Entry.{Entry}
-use Rattle.record.specs.Formed.{WellFormed, most, entries}
+use Rattle.record.specs.Formed.{WellFormed, entries}
 use Rattle.record.proofs.Entries.{whole-length}
 use Rattle.record.proofs.Told.{passed-iff}
 use Rattle.record.proofs.WellFormed.{well-formed-iff}
@@ -39,8 +43,8 @@ use Rattle.lowering.proofs.Lacking.{lack-is, lower-good, lower-refused,
 
 module _ (es : List Entry) (next : ℕ) (ids : List ℕ) (values : List Float) (rows : List ℕ) where
   -- on a refusal, what it was
-  kept-all : (n i : ℕ) → lowerOf es (roomIn next ids values rows) ≡ L.Refused n i → Lowers es next ids values rows (L.Refused n i) ids values rows
-  kept-all n i e = record { answer = sym e; ids-are = rw e refl; values-are = rw e refl; rows-are = rw e refl }
+  kept-all : (r : Refusal) → lowerOf es (roomIn next ids values rows) ≡ L.Refused r → Lowers es next ids values rows (L.Refused r) ids values rows
+  kept-all r e = record { answer = sym e; ids-are = rw e refl; values-are = rw e refl; rows-are = rw e refl }
 
   -- and else the slots and the rows
   filled-all : (l : Layout) (n m : ℕ) → lowerOf es (roomIn next ids values rows) ≡ L.Good l n m
@@ -49,16 +53,15 @@ module _ (es : List Entry) (next : ℕ) (ids : List ℕ) (values : List Float) (
 
   -- ---- the check refuses
 
-  pub refused-ends : (n i : ℕ) → checkedOf es ≡ checked.Refused n i → Lowers es next ids values rows (L.Refused n i) ids values rows
+  pub refused-ends : (r : Refusal) → checkedOf es ≡ checked.Refused r → Lowers es next ids values rows (L.Refused r) ids values rows
   unfolding checkedOf
-  refused-ends n i = go (checkOf es) refl
+  refused-ends r = go (checkOf es) refl
     where
-      go : (a : Answer Fault) → checkOf es ≡ a → answer es a ≡ checked.Refused n i → Lowers es next ids values rows (L.Refused n i) ids values rows
+      go : (a : Answer Fault) → checkOf es ≡ a → answer es a ≡ checked.Refused r → Lowers es next ids values rows (L.Refused r) ids values rows
       go passed e q = let z : _≡_ {A = ℕ} 0 1 = cc in absurd (omega arith)
       go (refused f j) e q =
-          let number : numberOf f ≡ n = cc in
-          let place : j ≡ i = cc in
-          rw (← number, ← place) (kept-all (numberOf f) j (lower-refused es (roomIn next ids values rows) f j e))
+          let same : refusal (numberOf f) j ≡ r = cc in
+          rw (← same) (kept-all (refusal (numberOf f) j) (lower-refused es (roomIn next ids values rows) f j e))
 
 -- ---- what is lacking
 
@@ -81,14 +84,14 @@ enough-for room n m =
     }
 
 -- any other number is that of the lack
-lack-ends : (es : List Entry) (room : Room) (k : ℕ) → checkOf es ≡ passed → lackTold room (length (slots es)) (length (rulesOf es)) ≡ k → (k ≡ 0 → ⊥) → lowerOf es room ≡ L.Refused k 0
+lack-ends : (es : List Entry) (room : Room) (k : ℕ) → checkOf es ≡ passed → lackTold room (length (slots es)) (length (rulesOf es)) ≡ k → (k ≡ 0 → ⊥) → lowerOf es room ≡ L.Refused (refusal k 0)
 lack-ends es room k c told some = go (lacking es room few-ids) (lacking es room short-slices) (lacking es room short-rows) (lack-is es room) told
   where
-    ends : (f : Lack) → lackOf es room ≡ refused f 0 → lackNumber f ≡ k → lowerOf es room ≡ L.Refused k 0
+    ends : (f : Lack) → lackOf es room ≡ refused f 0 → lackNumber f ≡ k → lowerOf es room ≡ L.Refused (refusal k 0)
     ends f e q = lower-lacking es room f 0 c e ∙ rw q refl
 
     go : (x y z : Bool) → lackOf es room ≡ cond x (refused few-ids 0) (cond y (refused short-slices 0) (cond z (refused short-rows 0) passed))
-        → cond x 36 (cond y 37 (cond z 38 0)) ≡ k → lowerOf es room ≡ L.Refused k 0
+        → cond x 36 (cond y 37 (cond z 38 0)) ≡ k → lowerOf es room ≡ L.Refused (refusal k 0)
     go true y z e q = ends few-ids e q
     go false true z e q = ends short-slices e q
     go false false true e q = ends short-rows e q
@@ -112,17 +115,17 @@ counted es P C A R e =
     }
 
 pub lacking-ends : (es : List Entry) (next : ℕ) (ids : List ℕ) (values : List Float) (rows : List ℕ) (P C A R k : ℕ) → checkedOf es ≡ checked.Passed P C A R
-    → lackTold (roomIn next ids values rows) (P * 2 + C * 3 + A * 6) R ≡ k → (k ≡ 0 → ⊥) → Lowers es next ids values rows (L.Refused k 0) ids values rows
+    → lackTold (roomIn next ids values rows) (P * 2 + C * 3 + A * 6) R ≡ k → (k ≡ 0 → ⊥) → Lowers es next ids values rows (L.Refused (refusal k 0)) ids values rows
 lacking-ends es next ids values rows P C A R k e told some =
     let c = counted es P C A R e in
-    kept-all es next ids values rows k 0 (lack-ends es (roomIn next ids values rows) k (c .passes) (rw (c .slot-number, c .rule-number) told) some)
+    kept-all es next ids values rows (refusal k 0) (lack-ends es (roomIn next ids values rows) k (c .passes) (rw (c .slot-number, c .rule-number) told) some)
 
 -- the counts are small
 pub record Few (P C A R : ℕ) : Type 0 where
-  pub points : P ≤ most
-  pub circles : C ≤ most
-  pub arcs : A ≤ most
-  pub rules : R ≤ most
+  pub points : P ≤ mostRecords
+  pub circles : C ≤ mostRecords
+  pub arcs : A ≤ mostRecords
+  pub rules : R ≤ mostRecords
 
 module _ (text bs : List ℕ) (P C A R : ℕ) (told : checkedOf (entries text bs) ≡ checked.Passed P C A R) where
   well-formed : WellFormed text bs
@@ -134,15 +137,15 @@ module _ (text bs : List ℕ) (P C A R : ℕ) (told : checkedOf (entries text bs
   pub drawn-are : entries text bs ≡ drawn text bs
   drawn-are = entries-drawn text bs well-formed
 
-  short : length (entries text bs) ≤ most
+  short : length (entries text bs) ≤ mostRecords
   short = let f = well-formed in omega (arith, whole-length text bs (f .short) (f .few) (f .whole), f .few)
 
   pub few-counted : Few P C A R
   few-counted =
       let es = entries text bs in
       let p = passed-with es P C A R told in
-      let below : (low high : ℕ) → countBelow (kindNo es) low high (length es) ≤ most = λ low high. omega (arith, short, count-le (kindNo es) low high (length es)) in
-      record { points = omega (arith, p .points, below 1 1); circles = omega (arith, p .circles, below 2 2); arcs = omega (arith, p .arcs, below 3 3); rules = omega (arith, p .rules, below 4 23) }
+      let below : (low high : ℕ) → countBelow (kindNo es) low high (length es) ≤ mostRecords = λ low high. omega (arith, short, count-le (kindNo es) low high (length es)) in
+      record { points = omega (arith, p .points, below 1 1); circles = omega (arith, p .circles, below 2 2); arcs = omega (arith, p .arcs, below 3 3); rules = omega (arith, p .rules, below firstRule lastRule) }
 
   module _ (next : ℕ) (ids : List ℕ) (values : List Float) (rows : List ℕ) (nothing : lackTold (roomIn next ids values rows) (P * 2 + C * 3 + A * 6) R ≡ 0) where
     passing : Passing (entries text bs) next ids values rows

@@ -4,8 +4,9 @@ use mathlib.Core.List.{List, [], _∷_, _++_, map}
 use Prim.Native.Nat.{ℕ}
 use lib.ListN.{replicate}
 use Prim.Native.String.{String}
+use Rattle.refusal.specs.Refusal.{refusal}
 use Rattle.ground.specs.Words.{bytes}
-use Rattle.refusal.specs.First.{lowest, first}
+use Rattle.refusal.specs.First.{lowest, first, once, answered}
 use Rattle.text.specs.Text.{runTo, wordAt, byteOn, labelAt, labelOn, suffixedOn}
 use Rattle.layout.specs.declared.Stage.the-variants.{Done}
 use Rattle.record.specs.Entry.{Entry}
@@ -99,6 +100,6 @@ written = 82 ∷ 4 ∷ 1 ∷ 2 ∷ 110 ∷ 0 ∷ 0 ∷ 0 ∷ (replicate 28 0 ++ 
 pub examples : (rowsOf plate 100 ≡ rows)
     × (encodeRow (row 4 2 (110 ∷ []) 92) ≡ written)
     × (numbers plate ≡ 0 ∷ 1 ∷ 2 ∷ 3 ∷ 4 ∷ 5 ∷ 6 ∷ 7 ∷ 8 ∷ 9 ∷ 10 ∷ [])
-    × (answers ≡ good 111 ∷ good 4294967295 ∷ Refused 36 0 ∷ Refused 37 0 ∷ Refused 37 0 ∷ Refused 38 0 ∷ Refused 31 4 ∷ [])
-unfolding slots namedIds rowsOf encodeRow bytesOf guessOf lackOf lowerOf lowestOr lowest first labelled twice namedAt named guessAt guessed wrongPlace wrongLabelTest noSuchPartTest withoutGuessTest checkOf countBelow malformedTest soundTest spelledTest runTo wordAt byteOn labelAt labelOn suffixedOn
+    × (answers ≡ good 111 ∷ good 4294967295 ∷ Refused (refusal 36 0) ∷ Refused (refusal 37 0) ∷ Refused (refusal 37 0) ∷ Refused (refusal 38 0) ∷ Refused (refusal 31 4) ∷ [])
+unfolding slots namedIds rowsOf encodeRow bytesOf guessOf lackOf lowerOf lowestOr lowest first once answered labelled twice namedAt named guessAt guessed wrongPlace wrongLabelTest noSuchPartTest withoutGuessTest checkOf countBelow malformedTest soundTest spelledTest runTo wordAt byteOn labelAt labelOn suffixedOn
 examples = (refl, refl, refl, refl)

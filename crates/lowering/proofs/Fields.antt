@@ -52,7 +52,7 @@ module _ (es : List Entry) (w : Fine es) (few : length es ≤ layout.mostShapes)
     handed-back : (i : ℕ) (s : Shape) → Declares es i s → HandsBack es vs i (shapeAt (kindFor s) vs (firstSlot s es i))
     handed-back i s d = go s (before-inside es i s d)
       where
-        enough : layout.slotsOf (layoutOf es) ≤ length vs
+        enough : layout.slotCount (layoutOf es) ≤ length vs
         enough = omega (arith, long, length-slots es)
 
         go : (s : Shape) → before s es i < before s es (length es) → HandsBack es vs i (shapeAt (kindFor s) vs (firstSlot s es i))

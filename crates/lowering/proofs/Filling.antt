@@ -18,14 +18,13 @@ use Rattle.layout.specs.declared.Layout.{Layout}
 use Rattle.layout.specs.Push.{over}
 use Rattle.layout.proofs.Onward.{over-front}
 use Rattle.record.specs.declared.Record.{Record}
-use Rattle.record.specs.Kinds.{kindAt, labelsColumn, needsColumn, table, cell}
+use Rattle.record.specs.Kinds.{kindAt, labelsColumn, needsColumn, table, cell, Rule, firstRule, lastRule}
 use Rattle.record.specs.Decode.{decodeAt}
 use Rattle.record.specs.Entry.{Label, Entry, entryAt, labelNo, entryOf, upTo}
 use Rattle.record.proofs.Cells.{needs-is}
 use Rattle.index.specs.Labels.{drawn, kindNo}
 use Rattle.index.proofs.Drawn.{drawn-at}
 use Rattle.drawing.specs.Needs.{codeAt}
-use Rattle.drawing.specs.Faults.{Rule}
 use Rattle.drawing.proofs.Laws.{four-labels, labels-read}
 use Rattle.lowering.specs.declared.spans.Span.{Span}
 use Rattle.ground.specs.Lists.{flat}
@@ -197,11 +196,11 @@ module _ (es : List Entry) (l : Layout) (ids : List ℕ) (i : ℕ) where
   -- what an entry adds where it is no rule, and where it is one
   pub if-none : (Rule (kindNo es i) → ⊥) → rowIf es l ids i ≡ []
   unfolding rowIf
-  if-none f = rw (refuted (says-within 4 23 (kindNo es i)) f) refl
+  if-none f = rw (refuted (says-within firstRule lastRule (kindNo es i)) f) refl
 
   pub if-row : Rule (kindNo es i) → rowIf es l ids i ≡ rowAt es l ids i
   unfolding rowIf
-  if-row u = rw (says-within 4 23 (kindNo es i) .back u) refl
+  if-row u = rw (says-within firstRule lastRule (kindNo es i) .back u) refl
 
   pub row-length : length (rowAt es l ids i) ≡ rowBytes
   unfolding rowAt

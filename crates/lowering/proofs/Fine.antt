@@ -11,7 +11,7 @@ use lib.ListN.{length, getD}
 use Rattle.refusal.specs.First.{Answer, passed, refused, EachBelow}
 use Rattle.refusal.proofs.Says.{stable}
 use Rattle.text.specs.Text.{isAlphanum}
-use Rattle.record.specs.Kinds.{kindAt}
+use Rattle.record.specs.Kinds.{kindAt, newPoint, newCircle, newArc, firstRule, lastRule, Declaration, Rule, Guess}
 use Rattle.record.specs.Entry.{Label, Entry, entryAt, labelNo}
 use Rattle.record.specs.Sound.{Sound, Plain, Spelled}
 use Rattle.record.specs.Formed.{unsound}
@@ -20,7 +20,7 @@ use Rattle.index.specs.Labels.{kindNo, nameNo}
 use Rattle.drawing.specs.declared.Checked.the-variants as checked
 use Rattle.drawing.specs.Needs.{Shape, point, circle, arc, declaring, Part, parts, needAt}
 use Rattle.drawing.specs.Faults as faults
-use faults.{Declaration, Rule, Guess, Meets, Guessed, AnyUnguessed, Fault, malformed, declared-twice, wrong-label, guessed-twice, without-guess}
+use faults.{Meets, Guessed, AnyUnguessed, Fault, malformed, declared-twice, wrong-label, guessed-twice, without-guess}
 use Rattle.drawing.specs.Check.{checkOf, countOf, answer, checkedOf}
 use Rattle.drawing.proofs.Agree.{says-meets, says-guessed, check-passes}
 use Rattle.lowering.specs.Demand.{Declares}
@@ -72,10 +72,10 @@ fine es e =
 -- a drawing is answered with its counts exactly if no fault was found
 pub record PassedWith (es : List Entry) (P C A R : ℕ) : Type 0 where
   pub none-found : checkOf es ≡ passed
-  pub points : P ≡ countOf es 1 1
-  pub circles : C ≡ countOf es 2 2
-  pub arcs : A ≡ countOf es 3 3
-  pub rules : R ≡ countOf es 4 23
+  pub points : P ≡ countOf es newPoint newPoint
+  pub circles : C ≡ countOf es newCircle newCircle
+  pub arcs : A ≡ countOf es newArc newArc
+  pub rules : R ≡ countOf es firstRule lastRule
 
 pub passed-with : (es : List Entry) (P C A R : ℕ) → checkedOf es ≡ checked.Passed P C A R → PassedWith es P C A R
 unfolding checkedOf

@@ -6,12 +6,12 @@ use Prim.Native.Nat.{ℕ, zero, suc, _≤_, _<_}
 use native.Mathlib.Omega.{arith}
 use lib.ListN.{length}
 use Rattle.refusal.proofs.Says.{Says, says-so, says-and, refuted}
+use Rattle.record.specs.Kinds.{pairGuess, numberGuess, Declaration, Guess}
 use Rattle.record.specs.Entry.{Label, Entry, entryAt}
 use Rattle.index.specs.Labels.{kindNo, nameNo, labelled, lowestOr}
 use Rattle.index.proofs.Laws.{says-same}
 use Rattle.index.proofs.First.{lowest-here}
-use Rattle.drawing.specs.Needs.{Shape, point, circle, arc, declaring, pairGuess, numberGuess, Part, parts}
-use Rattle.drawing.specs.Faults.{Declaration, Guess}
+use Rattle.drawing.specs.Needs.{Shape, point, circle, arc, declaring, Part, parts}
 use Rattle.lowering.specs.Slots.{guessOf}
 use Rattle.lowering.specs.Demand.{Declares}
 use Rattle.ground.proofs.Pieces.{Each, each-has}

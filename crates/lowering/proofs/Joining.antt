@@ -11,9 +11,10 @@ use Rattle.refusal.specs.First.{EachBelow}
 use Rattle.layout.specs.declared.Layout.{Layout}
 use Rattle.layout.specs.Slots.{empty}
 use Rattle.layout.specs.Push.{state, onward}
+use Rattle.record.specs.Record.{mostRecords}
+use Rattle.record.specs.Kinds.{newPoint, newArc}
 use Rattle.record.specs.Decode.{countOf, decodeAt}
 use Rattle.record.specs.Entry.{Entry}
-use Rattle.record.specs.Formed.{most}
 use Rattle.index.specs.Labels.{drawn, kindNo}
 use Rattle.index.specs.Chains.{Made, Chained}
 use Rattle.index.proofs.Drawn.{drawn-length, drawn-kind}
@@ -29,11 +30,11 @@ use Rattle.lowering.proofs.Tied.{writable, rows-are}
 -- ---- tables
 
 -- tables of 1,024 and 1,800 have room for a drawing
-pub chained : {es : List Entry} {low high : ℕ} {hs ns hs′ ns′ : List ℕ} {answer : Bool} → length es ≤ most → Made es low high hs ns answer hs′ ns′ → length hs ≡ 1024 → length ns ≡ 1800 → Chained es low high hs′ ns′
+pub chained : {es : List Entry} {low high : ℕ} {hs ns hs′ ns′ : List ℕ} {answer : Bool} → length es ≤ mostRecords → Made es low high hs ns answer hs′ ns′ → length hs ≡ 1024 → length ns ≡ 1800 → Chained es low high hs′ ns′
 chained {es = es} {hs = hs} {ns = ns} few m h n =
     made-chained m (m .told ∙ rw (le-leb (length es) 65534 (omega arith), eq-eqb (length hs) 1024 h, le-leb (length es) (length ns) (omega arith)) refl)
 
-pub tables-are : (text records heads nexts numbers : List ℕ) → Chained (drawn text records) 1 3 heads nexts → length (drawn text records) ≤ length numbers
+pub tables-are : (text records heads nexts numbers : List ℕ) → Chained (drawn text records) newPoint newArc heads nexts → length (drawn text records) ≤ length numbers
     → EachBelow (countOf records) (λ i. getD numbers i 0 ≡ countBelow (λ j. decodeAt records j .kind) (decodeAt records i .kind) (decodeAt records i .kind) i)
     → Tables (drawn text records) heads nexts numbers
 tables-are text records heads nexts numbers c long each = record {

@@ -6,7 +6,8 @@ use mathlib.Core.List.{List}
 use Prim.Native.Nat.{ℕ, _+_}
 use native.Mathlib.Omega.{arith}
 use lib.ListN.{length}
-use Rattle.refusal.specs.First.{passed, refused, lowest, first}
+use Rattle.refusal.specs.Refusal.{refusal}
+use Rattle.refusal.specs.First.{passed, refused, lowest, first, once, answered}
 use Rattle.refusal.proofs.Says.{Says, says-lt, says-or}
 use Rattle.refusal.proofs.Right.{passed-iff}
 use Rattle.record.specs.Entry.{Entry}
@@ -27,7 +28,7 @@ module _ (es : List Entry) (room : Room) where
   -- the same, test by test
   pub lack-is : lackOf es room
       ≡ cond (lacking es room few-ids) (refused few-ids 0) (cond (lacking es room short-slices) (refused short-slices 0) (cond (lacking es room short-rows) (refused short-rows 0) passed))
-  unfolding lackOf first lowest
+  unfolding lackOf once first lowest
   lack-is = go (lacking es room few-ids) refl (lacking es room short-slices) refl (lacking es room short-rows) refl
     where
       go : (a : Bool) → lacking es room few-ids ≡ a → (b : Bool) → lacking es room short-slices ≡ b → (c : Bool) → lacking es room short-rows ≡ c
@@ -45,20 +46,20 @@ module _ (es : List Entry) (room : Room) where
     not-lacking short-rows l = omega (arith, enough .rows-lent, l)
 
     pub none-lacking : lackOf es room ≡ passed
-    unfolding lackOf
+    unfolding lackOf once
     none-lacking = passed-iff (λ f i. lacking es room f) (λ f i. Lacking es room f) says-lacking 1 lackOrder .1 (λ f m j h l. not-lacking f l)
 
     -- with nothing lacking, a drawing that the check passes is lowered
     pub lower-good : checkOf es ≡ passed → lowerOf es room ≡ L.Good (layoutOf es) (room .next + length (slots es)) (length (rulesOf es))
-    unfolding lowerOf
+    unfolding lowerOf answered
     lower-good c = rw (c, none-lacking) refl
 
   -- a drawing that the check refuses is refused alike
-  pub lower-refused : (f : Fault) (i : ℕ) → checkOf es ≡ refused f i → lowerOf es room ≡ L.Refused (numberOf f) i
-  unfolding lowerOf
+  pub lower-refused : (f : Fault) (i : ℕ) → checkOf es ≡ refused f i → lowerOf es room ≡ L.Refused (refusal (numberOf f) i)
+  unfolding lowerOf answered
   lower-refused f i c = rw c refl
 
   -- and one that passes, for what is lacking
-  pub lower-lacking : (f : Lack) (i : ℕ) → checkOf es ≡ passed → lackOf es room ≡ refused f i → lowerOf es room ≡ L.Refused (lackNumber f) i
-  unfolding lowerOf
+  pub lower-lacking : (f : Lack) (i : ℕ) → checkOf es ≡ passed → lackOf es room ≡ refused f i → lowerOf es room ≡ L.Refused (refusal (lackNumber f) i)
+  unfolding lowerOf answered
   lower-lacking f i c l = rw (c, l) refl

@@ -9,10 +9,11 @@ use Rattle.layout.specs.declared.PointIds.the-variants as PI
 use Rattle.layout.specs.declared.CircleIds.the-variants as CI
 use Rattle.layout.specs.declared.ArcIds.the-variants as AI
 use Rattle.layout.specs.Slots as layout
-use Rattle.layout.specs.Refusals.{lookTests}
+use Rattle.layout.specs.Refusals.{reasonNumber, lookTold}
 use Rattle.layout.specs.Look.{pointVars, circleVars, arcVars, pointIds, circleIds, arcSlotIds}
-use Rattle.layout.proofs.Told.{Clear, told-clear}
-use Rattle.layout.proofs.Laws.{look-clear}
+use Rattle.refusal.specs.First.{passed}
+use Rattle.refusal.proofs.Once.{answered-passed}
+use Rattle.layout.proofs.Laws.{look-passes}
 use Rattle.record.specs.Entry.{Label, Entry}
 use Rattle.index.specs.Labels.{nameNo}
 use Rattle.drawing.specs.Needs.{Shape, point, circle, arc}
@@ -56,14 +57,14 @@ module _ (ids : List ℕ) (at : ℕ) where
 -- ---- what the lookups hand back
 
 module _ (es : List Entry) (few : length es ≤ layout.mostShapes) (ids : List ℕ) (long : length (slots es) ≤ length ids) where
-  clear : (i : ℕ) (s : Shape) → before s es i < layout.countOf (kindFor s) (layoutOf es) → Clear (lookTests (kindFor s) (layoutOf es) (length ids) (before s es i))
-  clear i s = look-clear (kindFor s) (layoutOf es) (length ids) (before s es i) (possible es few) (omega (arith, long, length-slots es))
+  clear : (i : ℕ) (s : Shape) → before s es i < layout.shapesIn (kindFor s) (layoutOf es) → lookTold (kindFor s) (layoutOf es) (length ids) (before s es i) ≡ passed
+  clear i s = look-passes (kindFor s) (layoutOf es) (length ids) (before s es i) (possible es few) (omega (arith, long, length-slots es))
 
   handed-back : (i : ℕ) (s : Shape) → Declares es i s → HandsIds es ids i (taken ids (firstSlot s es i) s)
   unfolding pointIds circleIds arcSlotIds
-  handed-back i point d = told-clear PI.Refused _ _ (clear i point (before-inside es i point d))
-  handed-back i circle d = told-clear CI.Refused _ _ (clear i circle (before-inside es i circle d))
-  handed-back i arc d = told-clear AI.Refused _ _ (clear i arc (before-inside es i arc d))
+  handed-back i point d = answered-passed reasonNumber PI.Refused _ _ (clear i point (before-inside es i point d))
+  handed-back i circle d = answered-passed reasonNumber CI.Refused _ _ (clear i circle (before-inside es i circle d))
+  handed-back i arc d = answered-passed reasonNumber AI.Refused _ _ (clear i arc (before-inside es i arc d))
 
   pub looked-up : (i : ℕ) (s : Shape) (k : ℕ) (t : Slot) (n : ℕ) → ComponentOf es i s k t → getD ids (firstSlot s es i + k) 0 ≡ n → LookedUp es ids i s t n
   looked-up i s k t n c e = record {

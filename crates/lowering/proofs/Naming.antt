@@ -15,7 +15,7 @@ use Rattle.refusal.specs.First.{allBelow}
 use Rattle.refusal.proofs.Says.{says-so, says-all}
 use Rattle.layout.specs.Push.{over}
 use Rattle.ground.specs.Words.{bytes}
-use Rattle.record.specs.Kinds.{kinds, noKind, kindAt}
+use Rattle.record.specs.Kinds.{kinds, noKind, kindAt, newPoint, newArc}
 use Rattle.record.specs.Decode.{decodeAt}
 use Rattle.record.specs.Entry.{Label}
 use Rattle.index.specs.Labels.{drawn, same, kindNo}
@@ -81,10 +81,10 @@ naming-is k q h =
 
 -- ---- spans
 
-module _ (text records heads nexts : List ℕ) (c : Chained (drawn text records) 1 3 heads nexts) (l : Label) (shape : ℕ) (found-it : shape ≡ walkOf (drawn text records) 1 3 heads nexts l) where
+module _ (text records heads nexts : List ℕ) (c : Chained (drawn text records) newPoint newArc heads nexts) (l : Label) (shape : ℕ) (found-it : shape ≡ walkOf (drawn text records) newPoint newArc heads nexts l) where
   -- the record of the shape
   pub shape-is : shape ≡ shapeNo (drawn text records) l
-  shape-is = found-it ∙ found (drawn text records) 1 3 1 3 heads nexts l c (omega arith) (omega arith)
+  shape-is = found-it ∙ found (drawn text records) newPoint newArc newPoint newArc heads nexts l c (omega arith) (omega arith)
 
   kind-is : (k : ℕ) → k ≡ decodeAt records shape .kind → k ≡ kindNo (drawn text records) (shapeNo (drawn text records) l)
   kind-is k ek = rw (← shape-is) (ek ∙ sym (drawn-kind text records shape))

@@ -1,6 +1,6 @@
 -- Lowering is refused with a number at a place exactly if that is the first of 30 to 38 that holds, at its lowest place: the check and what is lacking,
 -- one behind the other, are one search through the one order. Assumes nothing.
-use mathlib.Core.Path.{_≡_, refl, _∙_, sym}
+use mathlib.Core.Path.{_≡_, refl, ap, _∙_, sym}
 use mathlib.Core.Logic.{_↔_}
 use mathlib.Core.Bool.{Bool, true, false, _&&_}
 use mathlib.Core.Option.{Option, none, some}
@@ -10,7 +10,9 @@ use native.Mathlib.Omega.{arith}
 use lib.Dec.{eqb}
 use lib.ListN.{length}
 use borrow.Author.Tests.{ne-eqb}
-use Rattle.refusal.specs.First.{Answer, passed, refused, lowest, tell, first, Told, NoneHolds}
+use Rattle.refusal.specs.declared.Refusal.{Refusal}
+use Rattle.refusal.specs.Refusal.{refusal}
+use Rattle.refusal.specs.First.{Answer, passed, refused, lowest, tell, first, once, answered, Told, NoneHolds}
 use Rattle.refusal.proofs.Says.{Says, says-and, says-eq}
 use Rattle.refusal.proofs.Right.{refused-iff, passed-iff}
 use Rattle.record.specs.Entry.{Entry}
@@ -22,7 +24,7 @@ use Rattle.lowering.specs.declared.Lowered.{Lowered}
 use Rattle.lowering.specs.declared.Lowered.the-variants as L
 use Rattle.lowering.specs.Slots.{slots, layoutOf}
 use Rattle.lowering.specs.Rows.{rulesOf}
-use Rattle.lowering.specs.Lower.{Room, Lack, lackOrder, lackNumber, lacking, lackOf, behind, lowerOf}
+use Rattle.lowering.specs.Lower.{Room, Lack, lackOrder, lackNumber, lacking, lackOf, lowerOf}
 use Rattle.lowering.specs.Refusals.{Cause, fault, lack, causes, causeNumber, Causes}
 use Rattle.lowering.proofs.Lacking.{says-lacking}
 
@@ -38,7 +40,8 @@ abbrev lacked : Answer Lack → Answer Cause
 lacked (refused l i) = refused (lack l) i
 lacked passed = passed
 
-in-turn : (a : Answer Fault) (b : Answer Lack) (last : Lowered) → behind numberOf a (behind lackNumber b last) ≡ behind causeNumber (either a (lacked b)) last
+in-turn : (a : Answer Fault) (b : Answer Lack) (last : Lowered) → answered numberOf L.Refused a (answered lackNumber L.Refused b last) ≡ answered causeNumber L.Refused (either a (lacked b)) last
+unfolding answered
 in-turn (refused f i) b last = refl
 in-turn passed (refused l i) last = refl
 in-turn passed passed last = refl
@@ -86,8 +89,8 @@ module _ (es : List Entry) (room : Room) where
   abbrev told : Answer Cause
   told = first causes tests (places es)
 
-  lower-is : lowerOf es room ≡ behind causeNumber told good
-  unfolding lowerOf checkOf lackOf
+  lower-is : lowerOf es room ≡ answered causeNumber L.Refused told good
+  unfolding lowerOf checkOf lackOf once
   lower-is =
       in-turn (checkOf es) (lackOf es room) good
       ∙ rw (faults-first order (map lack lackOrder), lacks-behind lackOrder) refl
@@ -95,12 +98,16 @@ module _ (es : List Entry) (room : Room) where
   -- ---- in words
 
   -- the cause behind a number
-  because : (a : Answer Cause) (number place : ℕ) → behind causeNumber a good ≡ L.Refused number place → (c : Cause) × (causeNumber c ≡ number) × (a ≡ refused c place)
-  because (refused c i) number place e = let n : causeNumber c ≡ number = cc in let p : i ≡ place = cc in (c, n, cc)
+  because : (a : Answer Cause) (number place : ℕ) → answered causeNumber L.Refused a good ≡ L.Refused (refusal number place) → (c : Cause) × (causeNumber c ≡ number) × (a ≡ refused c place)
+  unfolding answered
+  because (refused c i) number place e =
+      let same : refusal (causeNumber c) i ≡ refusal number place = cc in
+      (c, ap (λ (r : Refusal). r .number) same, ap (λ (r : Refusal). refused c (r .place)) same)
   because passed number place e = let z : _≡_ {A = ℕ} 0 1 = cc in absurd (omega arith)
 
   -- a number is told at a place exactly if it is that of the first cause of the order that holds anywhere, and the place is the lowest where it holds
-  pub lower-refused-iff : (number place : ℕ) → (lowerOf es room ≡ L.Refused number place) ↔ ((c : Cause) × (causeNumber c ≡ number) × Told (Causes es room) (places es) causes c place)
+  pub lower-refused-iff : (number place : ℕ) → (lowerOf es room ≡ L.Refused (refusal number place)) ↔ ((c : Cause) × (causeNumber c ≡ number) × Told (Causes es room) (places es) causes c place)
+  unfolding answered
   lower-refused-iff number place = (
     λ e. let (c, n, w) = because told number place (sym lower-is ∙ e) in (c, n, refused-iff tests (Causes es room) says (places es) causes c place .0 w),
     λ w. lower-is ∙ rw (refused-iff tests (Causes es room) says (places es) causes (w .0) place .1 (w .2), w .1) refl,
@@ -108,11 +115,12 @@ module _ (es : List Entry) (room : Room) where
 
   -- and a drawing is lowered exactly if none of them holds
   pub lower-good-iff : (lowerOf es room ≡ good) ↔ NoneHolds (Causes es room) (places es) causes
+  unfolding answered
   lower-good-iff = (
     λ e. passed-iff tests (Causes es room) says (places es) causes .0 (none-told told (sym lower-is ∙ e)),
     λ n. lower-is ∙ rw (passed-iff tests (Causes es room) says (places es) causes .1 n) refl,
   )
     where
-      none-told : (a : Answer Cause) → behind causeNumber a good ≡ good → a ≡ passed
+      none-told : (a : Answer Cause) → answered causeNumber L.Refused a good ≡ good → a ≡ passed
       none-told passed e = refl
       none-told (refused c i) e = let z : _≡_ {A = ℕ} 0 1 = cc in absurd (omega arith)

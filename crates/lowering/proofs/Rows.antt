@@ -14,14 +14,14 @@ use Rattle.refusal.specs.First.{allBelow}
 use Rattle.refusal.proofs.Says.{says-so, says-all}
 use Rattle.layout.specs.Push.{onward}
 use Rattle.layout.proofs.Onward.{length-onward}
-use Rattle.record.specs.Kinds.{kindAt}
+use Rattle.record.specs.Kinds.{kindAt, Rule, fixComponent, fixCenter}
 use Rattle.record.specs.Entry.{Label, Entry, entryAt, labelNo}
 use Rattle.record.specs.Sound.{Sound}
 use Rattle.index.specs.Labels.{kindNo, nameNo, same}
 use Rattle.index.proofs.Laws.{says-same}
 use Rattle.drawing.specs.Needs as needs
 use needs.{Shape, point, circle, arc, Need, needAt}
-use Rattle.drawing.specs.Faults.{Rule, Named, Meets}
+use Rattle.drawing.specs.Faults.{Named, Meets}
 use Rattle.ground.specs.Lists.{flat, sumTo}
 use Rattle.lowering.specs.Slots.{slots, size, firstSlot}
 use Rattle.row.specs.Row.{mostIds}
@@ -43,12 +43,12 @@ bare (c ∷ d ∷ cs) = false
 
 -- but for kinds 4 and 18, a rule's labels are so: one computed test of the table
 abbrev bareKind : ℕ → Bool
-bareKind k = ltb k 4 || ((eqb k 4 || eqb k 18) || allBelow (kindAt k .labels) (λ q. bare (needAt k q)))
+bareKind k = ltb k 4 || ((eqb k fixComponent || eqb k fixCenter) || allBelow (kindAt k .labels) (λ q. bare (needAt k q)))
 
 bare-table : allBelow 24 bareKind ≡ true
 bare-table = refl
 
-bare-kind : (k : ℕ) → Rule k → (eqb k 4 || eqb k 18) ≡ false → (q : ℕ) → q < kindAt k .labels → bare (needAt k q) ≡ true
+bare-kind : (k : ℕ) → Rule k → (eqb k fixComponent || eqb k fixCenter) ≡ false → (q : ℕ) → q < kindAt k .labels → bare (needAt k q) ≡ true
 bare-kind k u a =
     let t : bareKind k ≡ true = says-all bareKind (λ n. bareKind n ≡ true) (λ n. says-so) 24 .so bare-table k (omega (arith, u .1)) in
     says-all (λ q. bare (needAt k q)) (λ q. bare (needAt k q) ≡ true) (λ q. says-so) (kindAt k .labels) .so (rw (le-ltb k 4 (u .0), a) at t)
@@ -125,18 +125,18 @@ module _ (es : List Entry) (w : Fine es) (next : ℕ) (e : Entry) where
   at-eighteen zero k s h m = fixed-center k (third-xy 18 k refl s) m
   at-eighteen (suc q) k s h m = absurd (omega (arith, h))
 
-  at-other : (q : ℕ) → eqb (e .kind) 4 ≡ false → eqb (e .kind) 18 ≡ false → Rule (e .kind) → q < kindAt (e .kind) .labels → Meets es (needAt (e .kind) q) (labelNo e q) → WorkedOut es next e q
+  at-other : (q : ℕ) → eqb (e .kind) fixComponent ≡ false → eqb (e .kind) fixCenter ≡ false → Rule (e .kind) → q < kindAt (e .kind) .labels → Meets es (needAt (e .kind) q) (labelNo e q) → WorkedOut es next e q
   at-other q a b u h m =
       let (j, s, d, name, wide) = bare-met es (needAt (e .kind) q) (labelNo e q) (bare-kind (e .kind) u (rw (a, b) refl) q h) m in
       let n : namingOf (e .kind) ≡ whole = rw (a, b) refl in
       all-slots j s n d name (wide ∙ rw (a, b) refl) (whole-ids es w next e (labelNo e q) j s d n name)
 
   worked : (q : ℕ) → Sound e → Rule (e .kind) → q < kindAt (e .kind) .labels → Meets es (needAt (e .kind) q) (labelNo e q) → WorkedOut es next e q
-  worked q s u h m = go (eqb (e .kind) 4) refl (eqb (e .kind) 18) refl
+  worked q s u h m = go (eqb (e .kind) fixComponent) refl (eqb (e .kind) fixCenter) refl
     where
-      go : (a : Bool) → eqb (e .kind) 4 ≡ a → (b : Bool) → eqb (e .kind) 18 ≡ b → WorkedOut es next e q
-      go true a b f = let k = eqb-true (e .kind) 4 a in at-four q k s (rw k at h) (rw k at m)
-      go false a true f = let k = eqb-true (e .kind) 18 f in at-eighteen q k s (rw k at h) (rw k at m)
+      go : (a : Bool) → eqb (e .kind) fixComponent ≡ a → (b : Bool) → eqb (e .kind) fixCenter ≡ b → WorkedOut es next e q
+      go true a b f = let k = eqb-true (e .kind) fixComponent a in at-four q k s (rw k at h) (rw k at m)
+      go false a true f = let k = eqb-true (e .kind) fixCenter f in at-eighteen q k s (rw k at h) (rw k at m)
       go false a false f = at-other q a f u h m
 
 -- as many ids as its place comes to

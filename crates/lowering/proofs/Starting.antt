@@ -5,6 +5,7 @@ use Prim.Native.Nat.{ℕ}
 use native.Mathlib.Omega.{arith}
 use lib.ListN.{length}
 use lib.Ieee.{Float, binary64, ofBits}
+use Rattle.record.specs.Kinds.{pairGuess, numberGuess}
 use Rattle.record.specs.declared.Record.{Record}
 use Rattle.record.specs.Decode.{decodeAt}
 use Rattle.record.specs.Entry.{Label, Entry, entryOf}
@@ -12,7 +13,6 @@ use Rattle.index.specs.Labels.{drawn, labelled, lowestOr}
 use Rattle.index.specs.Chains.{Chained, walkOf}
 use Rattle.index.proofs.Drawn.{drawn-at}
 use Rattle.index.proofs.Found.{found}
-use Rattle.drawing.specs.Needs.{pairGuess, numberGuess}
 use Rattle.lowering.specs.Slots.{slot, x-axis, y-axis, no-axis, guessOf, startOf}
 use Rattle.lowering.specs.Steps.{pairFor}
 

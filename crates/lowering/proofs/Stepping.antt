@@ -12,13 +12,14 @@ use borrow.Author.Tests.{lt-ltb, le-ltb, eq-eqb, ne-eqb}
 use Rattle.layout.specs.declared.Layout.{Layout}
 use Rattle.layout.specs.declared.Pushed.{Pushed}
 use Rattle.layout.specs.declared.Pushed.the-variants as P
-use Rattle.layout.specs.declared.Refusal.{Refusal}
+use Rattle.refusal.specs.declared.Refusal.{Refusal}
 use Rattle.layout.specs.declared.Stepped.{Stepped}
 use Rattle.layout.specs.declared.Stepped.the-variants as S
 use Rattle.layout.specs.Slots as layout
-use Rattle.layout.specs.Refusals.{doneTests, idsEnd}
-use Rattle.layout.specs.Push.{State, state, after, Push, testsIn, filled, stepped, nextOf, doneOf}
-use Rattle.layout.proofs.Told.{told-pair}
+use Rattle.layout.specs.Slots.{idsEnd}
+use Rattle.layout.specs.Refusals.{reasonNumber, doneTold}
+use Rattle.layout.specs.Push.{State, state, after, Push, toldIn, filled, stepped, nextOf, doneOf}
+use Rattle.refusal.proofs.Once.{answered-pair}
 use Rattle.record.specs.Entry.{Label, Entry}
 use Rattle.index.specs.Labels.{kindNo, nameNo}
 use Rattle.row.specs.Row.{rowBytes}
@@ -63,7 +64,7 @@ Tells l (S.Refused r) l′ = l ≡ l′
 
 tells : (l : Layout) → Tells l (doneOf l) (step l)
 unfolding doneOf
-tells l = told-pair (Tells l) S.Refused (λ r. l) (doneTests l) (S.Good (stepped l)) (stepped l) (λ r. refl) (λ c. refl)
+tells l = answered-pair reasonNumber (Tells l) S.Refused (λ r. l) (doneTold l) (S.Good (stepped l)) (stepped l) (λ r. refl) (λ c. refl)
 
 module _ (l : Layout) (answer : Stepped) (e : answer ≡ doneOf l) where
   pub step-taken : (m : Layout) → answer ≡ S.Good m → m ≡ step l
@@ -86,7 +87,7 @@ push-state shape l next ids values r ids′ values′ p =
     let k = layout.kindOf shape in
     let vs = layout.components shape in
     rw (p .answer, p .ids-are, p .values-are)
-    (told-pair (λ (q : Pushed) (t : State). state (layoutAfter q l) (nextOf q next) (t .ids) (t .values) ≡ t) P.Refused (λ r. s) (testsIn k s) (P.Good (filled k vs s .layout) (filled k vs s .next)) (filled k vs s) (λ r. refl) (λ c. refl))
+    (answered-pair reasonNumber (λ (q : Pushed) (t : State). state (layoutAfter q l) (nextOf q next) (t .ids) (t .values) ≡ t) P.Refused (λ r. s) (toldIn k s) (P.Good (filled k vs s .layout) (filled k vs s .next)) (filled k vs s) (λ r. refl) (λ c. refl))
 
 module _ (es : List Entry) (kind i : ℕ) (s : State) (k : ℕ) (is : k ≡ kindNo es i) where
   -- an entry of the kind is pushed

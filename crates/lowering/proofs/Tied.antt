@@ -18,19 +18,20 @@ use Rattle.layout.specs.declared.PointIds.the-variants as PI
 use Rattle.layout.specs.declared.CircleIds.the-variants as CI
 use Rattle.layout.specs.declared.ArcIds.the-variants as AI
 use Rattle.layout.specs.Slots as layout
-use Rattle.layout.specs.Refusals.{lookTests}
+use Rattle.layout.specs.Refusals.{reasonNumber, lookTold}
 use Rattle.layout.specs.Push.{onward}
 use Rattle.layout.specs.Look.{pointVars, circleVars, arcVars, pointIds, circleIds, arcSlotIds}
-use Rattle.layout.proofs.Told.{Clear, told-clear}
-use Rattle.layout.proofs.Laws.{look-clear}
+use Rattle.refusal.specs.First.{passed}
+use Rattle.refusal.proofs.Once.{answered-passed}
+use Rattle.layout.proofs.Laws.{look-passes}
 use Rattle.layout.proofs.Onward.{length-onward, getD-onward}
-use Rattle.record.specs.Kinds.{kindAt}
+use Rattle.record.specs.Record.{mostRecords}
+use Rattle.record.specs.Kinds.{kindAt, Rule, newPoint, newArc, firstRule, lastRule, fixComponent, fixCenter}
 use Rattle.record.specs.Entry.{Label, Entry, entryAt, labelNo}
-use Rattle.record.specs.Formed.{most}
 use Rattle.index.specs.Labels.{kindNo, nameNo, same, within}
 use Rattle.index.proofs.Laws.{says-same}
 use Rattle.drawing.specs.Needs.{Shape, point, circle, arc, declaring, needAt}
-use Rattle.drawing.specs.Faults.{Rule, Meets}
+use Rattle.drawing.specs.Faults.{Meets}
 use Rattle.ground.specs.Lists.{flat}
 use Rattle.lowering.specs.Slots.{slots, size, before, howMany, kindFor, layoutOf, firstSlot}
 use Rattle.row.specs.Row.{encodeRow, encodeRows}
@@ -88,9 +89,9 @@ no-center a n = go (ltb (length a) 7) refl
 -- ---- the span of a label, by what it names
 
 naming-part : (k : ℕ) → namingOf k ≡ part → k ≡ 4
-naming-part k = go (eqb k 4) refl (eqb k 18)
+naming-part k = go (eqb k fixComponent) refl (eqb k fixCenter)
   where
-    go : (a : Bool) → eqb k 4 ≡ a → (b : Bool) → cond a part (cond b center whole) ≡ part → k ≡ 4
+    go : (a : Bool) → eqb k fixComponent ≡ a → (b : Bool) → cond a part (cond b center whole) ≡ part → k ≡ 4
     go true f b e = eqb-true k 4 f
     go false f true e = let z : _≡_ {A = ℕ} 0 1 = cc in absurd (omega arith)
     go false f false e = let z : _≡_ {A = ℕ} 0 1 = cc in absurd (omega arith)
@@ -120,12 +121,12 @@ point-at third (inr o) = rw o (refl, omega arith)
 
 -- ---- the ids of a declared shape
 
-count-in : (es : List Entry) (s : Shape) → layout.countOf (kindFor s) (layoutOf es) ≡ howMany s es
+count-in : (es : List Entry) (s : Shape) → layout.shapesIn (kindFor s) (layoutOf es) ≡ howMany s es
 count-in es point = refl
 count-in es circle = refl
 count-in es arc = refl
 
-module _ (es : List Entry) (w : Fine es) (few : length es ≤ most) (next : ℕ) (ids : List ℕ) where
+module _ (es : List Entry) (w : Fine es) (few : length es ≤ mostRecords) (next : ℕ) (ids : List ℕ) where
   abbrev given : List ℕ
   given = onto ids (onward next (length (slots es)))
 
@@ -140,9 +141,9 @@ module _ (es : List Entry) (w : Fine es) (few : length es ≤ most) (next : ℕ)
       omega (arith, length-append (onward next k) (drop (length (onward next k)) ids), length-onward next k)
 
   module _ (j : ℕ) (s : Shape) (d : Declares es j s) where
-    clear : Clear (lookTests (kindFor s) (layoutOf es) (length given) (before s es j))
+    clear : lookTold (kindFor s) (layoutOf es) (length given) (before s es j) ≡ passed
     clear =
-        look-clear (kindFor s) (layoutOf es) (length given) (before s es j) (possible es (omega (arith, few))) (omega (arith, long, length-slots es))
+        look-passes (kindFor s) (layoutOf es) (length given) (before s es j) (possible es (omega (arith, few))) (omega (arith, long, length-slots es))
         (rw (count-in es s) (before-inside es j s d))
 
     -- the id of component k
@@ -154,7 +155,7 @@ module _ (es : List Entry) (w : Fine es) (few : length es ≤ most) (next : ℕ)
   six-is j point d =
       let at = firstSlot point es j in
       rw (
-        told-clear PI.Refused (lookTests (kindFor point) (layoutOf es) (length given) (before point es j)) (PI.Found (pointVars given at)) (clear j point d),
+        answered-passed reasonNumber PI.Refused (lookTold (kindFor point) (layoutOf es) (length given) (before point es j)) (PI.Found (pointVars given at)) (clear j point d),
         own-id j point d 0 at (next + at) (omega arith) (omega arith) (omega arith),
         own-id j point d 1 (at + 1) (suc (next + at)) (omega arith) (omega arith) (omega arith),
       )
@@ -162,7 +163,7 @@ module _ (es : List Entry) (w : Fine es) (few : length es ≤ most) (next : ℕ)
   six-is j circle d =
       let at = firstSlot circle es j in
       rw (
-        told-clear CI.Refused (lookTests (kindFor circle) (layoutOf es) (length given) (before circle es j)) (CI.Found (circleVars given at)) (clear j circle d),
+        answered-passed reasonNumber CI.Refused (lookTold (kindFor circle) (layoutOf es) (length given) (before circle es j)) (CI.Found (circleVars given at)) (clear j circle d),
         own-id j circle d 0 at (next + at) (omega arith) (omega arith) (omega arith),
         own-id j circle d 1 (at + 1) (suc (next + at)) (omega arith) (omega arith) (omega arith),
         own-id j circle d 2 (at + 2) (suc (suc (next + at))) (omega arith) (omega arith) (omega arith),
@@ -171,7 +172,7 @@ module _ (es : List Entry) (w : Fine es) (few : length es ≤ most) (next : ℕ)
   six-is j arc d =
       let at = firstSlot arc es j in
       rw (
-        told-clear AI.Refused (lookTests (kindFor arc) (layoutOf es) (length given) (before arc es j)) (AI.Found (arcVars given at)) (clear j arc d),
+        answered-passed reasonNumber AI.Refused (lookTold (kindFor arc) (layoutOf es) (length given) (before arc es j)) (AI.Found (arcVars given at)) (clear j arc d),
         own-id j arc d 0 at (next + at) (omega arith) (omega arith) (omega arith),
         own-id j arc d 1 (at + 1) (suc (next + at)) (omega arith) (omega arith) (omega arith),
         own-id j arc d 2 (at + 2) (suc (suc (next + at))) (omega arith) (omega arith) (omega arith),
@@ -192,7 +193,7 @@ module _ (es : List Entry) (w : Fine es) (few : length es ≤ most) (next : ℕ)
     shape-found : shapeNo es (nameNo es j) ≡ j
     shape-found =
         let b = declaration s (declaring s) refl in
-        declared-found es w j s 1 3 d (omega arith) (omega arith) (b .0) (b .1)
+        declared-found es w j s newPoint newArc d (omega arith) (omega arith) (b .0) (b .1)
 
     -- by the record that declares the shape, and where what is named stands in it
     said-at : (k n : ℕ) (xs : List ℕ) → spanOf es (namingOf (e .kind)) (e .third) l ≡ record { shape = j; first = k; count = n }
@@ -293,12 +294,12 @@ module _ (es : List Entry) (w : Fine es) (few : length es ≤ most) (next : ℕ)
   rows-to : (n : ℕ) → n ≤ length es → rowsBelow es (layoutOf es) given n ≡ encodeRows (map (rowFor es next) (rulesOf (take n es)))
   unfolding rowsBelow rowIf
   rows-to zero h = refl
-  rows-to (suc n) h = go (within 4 23 (kindNo es n)) refl (rows-to n (omega (arith, h))) ∙ sym (rows-more es next n h)
+  rows-to (suc n) h = go (within firstRule lastRule (kindNo es n)) refl (rows-to n (omega (arith, h))) ∙ sym (rows-more es next n h)
     where
-      go : (b : Bool) → within 4 23 (kindNo es n) ≡ b → rowsBelow es (layoutOf es) given n ≡ encodeRows (map (rowFor es next) (rulesOf (take n es)))
+      go : (b : Bool) → within firstRule lastRule (kindNo es n) ≡ b → rowsBelow es (layoutOf es) given n ≡ encodeRows (map (rowFor es next) (rulesOf (take n es)))
           → rowsBelow es (layoutOf es) given n ++ cond b (rowAt es (layoutOf es) given n) []
           ≡ encodeRows (map (rowFor es next) (rulesOf (take n es))) ++ cond b (encodeRow (rowFor es next (entryAt es n))) []
-      go true e so-far = rw (so-far, row-same n h (says-within 4 23 (kindNo es n) .so e)) refl
+      go true e so-far = rw (so-far, row-same n h (says-within firstRule lastRule (kindNo es n) .so e)) refl
       go false e so-far = rw so-far refl
 
   rows-all : rowsBelow es (layoutOf es) given (length es) ≡ encodeRows (rowsOf es next)

@@ -7,10 +7,10 @@ use lib.Dec.{eqb}
 use lib.ListN.{length, getD, length-map}
 use lib.Ieee.{Float, nan, binary64, ofBits}
 use Rattle.refusal.specs.First.{EachBelow}
+use Rattle.record.specs.Kinds.{pairGuess, Guess}
 use Rattle.record.specs.Entry.{Label, Entry}
 use Rattle.index.specs.Labels.{nameNo}
-use Rattle.drawing.specs.Needs.{Shape, point, circle, arc, pairGuess, Part, parts}
-use Rattle.drawing.specs.Faults.{Guess}
+use Rattle.drawing.specs.Needs.{Shape, point, circle, arc, Part, parts}
 use Rattle.lowering.specs.Slots.{Slot, slot, x-axis, y-axis, no-axis, slotsOfPart, slotsOfShape, slotsOf, slots, numberFor, startOf, valuesOf}
 use Rattle.lowering.specs.Demand.{noSlot, slotAt, Starts}
 use Rattle.ground.proofs.Pieces.{Each, each-at, each-flat, each-mem, getD-map}

@@ -13,15 +13,15 @@ use Rattle.layout.specs.declared.PointRead.the-variants as PR
 use Rattle.layout.specs.declared.CircleRead.the-variants as CR
 use Rattle.layout.specs.declared.ArcRead.the-variants as AR
 use Rattle.layout.specs.Slots as layout
-use Rattle.layout.specs.Refusals.{idsEnd}
+use Rattle.layout.specs.Slots.{idsEnd}
 use Rattle.layout.specs.Look.{pointIds, circleIds, arcSlotIds, pointRead, circleRead, arcRead}
 use Rattle.layout.specs.Run.{Distinct}
+use Rattle.record.specs.Kinds.{Rule, Guess, firstRule, lastRule}
 use Rattle.record.specs.Entry.{Label, Entry, entryAt, labelNo}
 use Rattle.record.specs.Formed.{entries}
 use Rattle.index.specs.Labels.{kindNo, nameNo}
 use Rattle.drawing.specs.declared.Checked.the-variants as checked
 use Rattle.drawing.specs.Needs.{Shape, point, circle, arc, declaring}
-use Rattle.drawing.specs.Faults.{Rule, Guess}
 use Rattle.drawing.specs.Check.{countBelow, checkedOf}
 use Rattle.lowering.specs.declared.Lowered.{Lowered}
 use Rattle.lowering.specs.declared.Lowered.the-variants as L
@@ -129,7 +129,7 @@ pub record RowOf (es : List Entry) (next : ℕ) (e : Entry) (bs : List ℕ) : Ty
 
 -- how many rules the first n records have
 abbrev pub rulesBefore : List Entry → ℕ → ℕ
-rulesBefore es n = countBelow (kindNo es) 4 23 n
+rulesBefore es n = countBelow (kindNo es) firstRule lastRule n
 
 -- ---- readout
 

@@ -4,8 +4,8 @@ use Prim.Native.Nat.{ℕ}
 use lib.Dec.{eqb}
 use lib.Ieee.{Float}
 use Rattle.ground.specs.Words.{bytes}
-use Rattle.layout.specs.declared.Kind.{Kind}
-use Rattle.layout.specs.declared.Kind.the-variants as K
+use Rattle.layout.specs.declared.ShapeKind.{ShapeKind}
+use Rattle.layout.specs.declared.ShapeKind.the-variants as K
 use Rattle.layout.specs.declared.Point.{Point}
 use Rattle.layout.specs.declared.PointVars.{PointVars}
 use Rattle.layout.specs.declared.CircleVars.{CircleVars}
@@ -36,7 +36,7 @@ pub data Ids : Type 0 where
   of-arc : ArcVars → Ids
 
 -- their shape's kind
-abbrev pub idsKind : Ids → Kind
+abbrev pub idsKind : Ids → ShapeKind
 idsKind (of-point p) = K.Point
 idsKind (of-circle c) = K.Circle
 idsKind (of-arc a) = K.Arc

@@ -7,8 +7,8 @@ use Prim.Native.Nat.{ℕ, _+_, _*_, _<_}
 use lib.Dec.{ltb}
 use lib.ListN.{length, drop}
 use lib.Ieee.{Float}
-use Rattle.refusal.specs.First.{Answer, passed, refused, first}
-use Rattle.layout.specs.Refusals.{idsEnd}
+use Rattle.refusal.specs.First.{Answer, once, answered}
+use Rattle.layout.specs.Slots.{idsEnd}
 use Rattle.layout.specs.Push.{onward}
 use Rattle.record.specs.Entry.{Entry}
 use Rattle.drawing.specs.Faults.{numberOf}
@@ -59,24 +59,19 @@ lacking es room short-rows = ltb (room .row-bytes) (length (rulesOf es) * rowByt
 
 -- the first of them, at place 0
 unfoldable pub lackOf : List Entry → Room → Answer Lack
-lackOf es room = first lackOrder (λ f i. lacking es room f) 1
+lackOf es room = once lackOrder (lacking es room)
 
 -- ---- the answer
 
--- a refusal with its number and place, or what comes behind it
-abbrev pub behind : {F : Type 0} → (F → ℕ) → Answer F → Lowered → Lowered
-behind number (refused f i) rest = L.Refused (number f) i
-behind number passed rest = rest
-
--- the layout, the next id, and how many rows there are
+-- what is wrong with the drawing, then what is lacking, or else the layout, the next id, and how many rows there are
 unfoldable pub lowerOf : List Entry → Room → Lowered
-lowerOf es room = behind numberOf (checkOf es) (behind lackNumber (lackOf es room) (L.Good (layoutOf es) (room .next + length (slots es)) (length (rulesOf es))))
+lowerOf es room = answered numberOf L.Refused (checkOf es) (answered lackNumber L.Refused (lackOf es room) (L.Good (layoutOf es) (room .next + length (slots es)) (length (rulesOf es))))
 
 -- ---- what is lent
 
 -- on a refusal what it was, and else something new
 abbrev pub unless : {A : Type 0} → Lowered → A → A → A
-unless (L.Refused n i) was new = was
+unless (L.Refused r) was new = was
 unless (L.Good l next rows) was new = new
 
 -- a list with new elements in the place of its first ones

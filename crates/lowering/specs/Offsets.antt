@@ -6,7 +6,7 @@ use Prim.Native.Nat.{ℕ, _+_}
 use lib.Dec.{eqb}
 use Rattle.ground.specs.Words.{bytes}
 use Rattle.ground.specs.Lists.{sumTo}
-use Rattle.record.specs.Kinds.{kindAt}
+use Rattle.record.specs.Kinds.{kindAt, fixComponent, fixCenter}
 use Rattle.record.specs.Entry.{Label}
 use Rattle.index.specs.Labels.{same}
 use Rattle.drawing.specs.Needs.{Shape, point, circle, arc, Need, needAt}
@@ -25,7 +25,7 @@ widthOf (c ∷ cs) = size (c .shape)
 
 -- how many ids label place q of a rule comes to: one in kinds 4 and 18, and else those of its shape
 abbrev pub idsAt : ℕ → ℕ → ℕ
-idsAt kind q = cond (eqb kind 4 || eqb kind 18) 1 (widthOf (needAt kind q))
+idsAt kind q = cond (eqb kind fixComponent || eqb kind fixCenter) 1 (widthOf (needAt kind q))
 
 -- how many ids the row of a kind has
 abbrev pub idsOfKind : ℕ → ℕ

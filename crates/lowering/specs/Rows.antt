@@ -5,6 +5,7 @@ use mathlib.Core.List.{List, [], _∷_, _++_, map}
 use Prim.Native.Nat.{ℕ, suc}
 use lib.Dec.{eqb}
 use Rattle.ground.specs.Words.{bytes}
+use Rattle.record.specs.Kinds.{firstRule, lastRule, fixComponent, fixCenter}
 use Rattle.record.specs.Entry.{Label, Entry}
 use Rattle.row.specs.Row.{Row}
 use Rattle.index.specs.Labels.{same, within}
@@ -19,7 +20,7 @@ pub data Naming : Type 0 where
 
 -- by the rule's kind
 abbrev pub namingOf : ℕ → Naming
-namingOf kind = cond (eqb kind 4) part (cond (eqb kind 18) center whole)
+namingOf kind = cond (eqb kind fixComponent) part (cond (eqb kind fixCenter) center whole)
 
 -- the label l, with the rule's third byte, names a slot
 abbrev pub Names : Naming → ℕ → Label → Slot → Type 0
@@ -51,7 +52,7 @@ rowFor es next e = record { kind = e .kind; third = e .third; ids = flat (namedI
 -- the rules of a drawing, kinds 4 to 23, in order
 abbrev pub rulesOf : List Entry → List Entry
 rulesOf [] = []
-rulesOf (e ∷ es) = cond (within 4 23 (e .kind)) (e ∷ rulesOf es) (rulesOf es)
+rulesOf (e ∷ es) = cond (within firstRule lastRule (e .kind)) (e ∷ rulesOf es) (rulesOf es)
 
 -- the rows of a drawing
 unfoldable pub rowsOf : List Entry → ℕ → List Row

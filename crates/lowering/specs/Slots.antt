@@ -9,11 +9,12 @@ use lib.Ieee.{Float, binary64, ofBits}
 use Rattle.ground.specs.Lists.{flat}
 use Rattle.layout.specs.declared.Layout.{Layout}
 use Rattle.layout.specs.declared.Stage.the-variants.{Done}
-use Rattle.layout.specs.declared.Kind.{Kind}
-use Rattle.layout.specs.declared.Kind.the-variants as K
+use Rattle.layout.specs.declared.ShapeKind.{ShapeKind}
+use Rattle.layout.specs.declared.ShapeKind.the-variants as K
 use Rattle.layout.specs.Slots.{sizeOf, slotOf}
+use Rattle.record.specs.Kinds.{pairGuess, numberGuess}
 use Rattle.record.specs.Entry.{Label, Entry, entryAt, labelNo}
-use Rattle.drawing.specs.Needs.{Shape, point, circle, arc, declaring, pairGuess, numberGuess, Part, parts}
+use Rattle.drawing.specs.Needs.{Shape, point, circle, arc, declaring, Part, parts}
 use Rattle.index.specs.Labels.{kindNo, labelled, lowestOr}
 use Rattle.drawing.specs.Check.{countBelow}
 
@@ -65,7 +66,7 @@ slots es = slotsOf point es ++ (slotsOf circle es ++ slotsOf arc es)
 -- ---- the layout
 
 -- the layout's kind of a shape
-abbrev pub kindFor : Shape → Kind
+abbrev pub kindFor : Shape → ShapeKind
 kindFor point = K.Point
 kindFor circle = K.Circle
 kindFor arc = K.Arc

@@ -21,18 +21,19 @@ use Rattle.layout.specs.declared.CircleIds.the-variants as CI
 use Rattle.layout.specs.declared.ArcIds.{ArcIds}
 use Rattle.layout.specs.declared.ArcIds.the-variants as AI
 use Rattle.layout.specs.Slots as layout
-use Rattle.layout.specs.Refusals.{told, doneTests, idsEnd}
+use Rattle.refusal.specs.First.{answered}
+use Rattle.layout.specs.Slots.{idsEnd}
+use Rattle.layout.specs.Refusals.{reasonNumber, doneTold}
 use Rattle.layout.specs.Push.{State, over, onward, after, stepped}
 use Rattle.layout.specs.Run.{act, done}
 use Rattle.layout.specs.Look.{pointIds, circleIds, arcSlotIds}
 use Rattle.store.specs.Store.{written}
-use Rattle.record.specs.Kinds.{assigned, a-round, kindAt}
+use Rattle.record.specs.Record.{mostRecords}
+use Rattle.record.specs.Kinds.{assigned, a-round, kindAt, Rule, newPoint, newCircle, newArc, firstRule, lastRule}
 use Rattle.record.specs.Entry.{Label, Entry, entryAt, labelNo}
-use Rattle.record.specs.Formed.{most}
 use Rattle.index.specs.Labels.{kindNo, nameNo, same, within, labelled, lowestOr}
 use Rattle.index.specs.Chains.{Chained}
 use Rattle.drawing.specs.Needs.{Shape, point, circle, arc}
-use Rattle.drawing.specs.Faults.{Rule}
 use Rattle.drawing.specs.Check.{countBelow, checkOf}
 use Rattle.lowering.specs.declared.spans.Span.{Span}
 use Rattle.ground.specs.Lists.{flat}
@@ -68,7 +69,7 @@ byKind kind m n x y z = cond (eqb kind m) x (cond (eqb kind n) y z)
 
 -- the shape that a kind declares
 abbrev pub shapeOf : ℕ → Shape
-shapeOf kind = byKind kind 1 2 point circle arc
+shapeOf kind = byKind kind newPoint newCircle point circle arc
 
 -- ---- pushes
 
@@ -88,7 +89,7 @@ pushedBelow es kind (suc i) s = pushedAt es kind i (pushedBelow es kind i s)
 
 -- the layout at the next stage
 abbrev pub step : Layout → Layout
-step l = told (λ r. l) (doneTests l) (stepped l)
+step l = answered reasonNumber (λ r. l) (doneTold l) (stepped l)
 
 -- the state after all shapes of a kind are pushed, at the next stage
 abbrev pub stage : List Entry → ℕ → State → State
@@ -96,21 +97,21 @@ stage es kind s = act done (pushedBelow es kind (length es) s)
 
 -- the state after all pushes
 unfoldable pub laid : List Entry → State → State
-laid es s = stage es 3 (stage es 2 (stage es 1 s))
+laid es s = stage es newArc (stage es newCircle (stage es newPoint s))
 
 -- ---- what a label names
 
 -- the record that declares the shape with a label
 abbrev pub shapeNo : List Entry → Label → ℕ
-shapeNo es l = lowestOr (length es) (labelled es 1 3 l)
+shapeNo es l = lowestOr (length es) (labelled es newPoint newArc l)
 
 -- how many slots a shape of a kind has
 abbrev pub sizeBy : ℕ → ℕ
-sizeBy kind = byKind kind 1 2 2 3 6
+sizeBy kind = byKind kind newPoint newCircle 2 3 6
 
 -- where the center of a circle or an arc stands among its slots
 abbrev pub centerBy : ℕ → ℕ
-centerBy kind = cond (eqb kind 3) 4 0
+centerBy kind = cond (eqb kind newArc) 4 0
 
 -- where x or y stands in a pair
 abbrev pub axisAt : ℕ → ℕ
@@ -170,7 +171,7 @@ arcSix (AI.Refused r) = zeros6
 
 -- the ids of a shape of a kind, by its number: an arc's from 2P + 3C on
 unfoldable pub sixOf : Layout → List ℕ → ℕ → ℕ → List ℕ
-sixOf l ids kind n = byKind kind 1 2 (pointSix (pointIds l ids n)) (circleSix (circleIds l ids n)) (arcSix (arcSlotIds l ids n))
+sixOf l ids kind n = byKind kind newPoint newCircle (pointSix (pointIds l ids n)) (circleSix (circleIds l ids n)) (arcSix (arcSlotIds l ids n))
 
 -- the number of entry i among those of its kind
 abbrev pub numberNo : List Entry → ℕ → ℕ
@@ -198,7 +199,7 @@ rowAt es l ids i =
 
 -- the bytes that entry i adds: those of its row, if it is a rule
 unfoldable pub rowIf : List Entry → Layout → List ℕ → ℕ → List ℕ
-rowIf es l ids i = cond (within 4 23 (kindNo es i)) (rowAt es l ids i) []
+rowIf es l ids i = cond (within firstRule lastRule (kindNo es i)) (rowAt es l ids i) []
 
 -- the rows of the rules among the first n entries
 unfoldable pub rowsBelow : List Entry → Layout → List ℕ → ℕ → List ℕ
@@ -209,7 +210,7 @@ rowsBelow es l ids (suc i) = rowsBelow es l ids i ++ rowIf es l ids i
 
 -- the declarations by their labels, and each entry's number among those of its kind
 pub record Tables (es : List Entry) (heads nexts numbers : List ℕ) : Type 0 where
-  pub chained : Chained es 1 3 heads nexts
+  pub chained : Chained es newPoint newArc heads nexts
   pub long : length es ≤ length numbers
   pub numbered : EachBelow (length es) (λ i. getD numbers i 0 ≡ numberNo es i)
 
@@ -259,7 +260,7 @@ pub record Slotted (s : State) (l : Layout) (ids : List ℕ) (values : List Floa
 -- a drawing that passes, with room for its slots and rows
 pub record Passing (es : List Entry) (next : ℕ) (ids : List ℕ) (values : List Float) (rows : List ℕ) : Type 0 where
   pub passes : checkOf es ≡ passed
-  pub few : length es ≤ most
+  pub few : length es ≤ mostRecords
   pub enough : Enough es (roomIn next ids values rows)
 
 -- its layout, ids, values and rows

@@ -5,19 +5,23 @@ mod spans;
 
 ghost use mathlib.Core.Path.{_≡_};
 ghost use Prim.Native.Nat.{_+_, _*_, _≤_};
-ghost use Rattle.record.specs.Formed.{most, entries};
+ghost use Rattle.record.specs.Record.{mostRecords};
+ghost use Rattle.record.specs.Formed.{entries};
+ghost use Rattle.layout.specs.Run.{slotsFor};
 ghost use Rattle.index.specs.Labels.{drawn};
 ghost use Rattle.lowering.specs.Lower.{Lowers, roomBy};
 ghost use Rattle.lowering.specs.Steps.{Passing, Filled, lackTold};
 use drawing::Checked;
 use drawing::check;
+use layout::IDS_END;
 use layout::Layout;
-use rules::fill_rows;
+use layout::VARS_PER_ARC;
+use layout::VARS_PER_CIRCLE;
+use layout::VARS_PER_POINT;
+use refusal::Refusal;
 use row::ROW;
+use rules::fill_rows;
 use shapes::fill_slots;
-
-// One past the largest id.
-const IDS_END: u32 = 4_294_967_295;
 
 // What lowering answers: the layout, the next id and how many rows there are, or a refusal.
 pub enum Lowered {
@@ -26,18 +30,15 @@ pub enum Lowered {
         next: u32,
         rows: usize,
     },
-    Refused {
-        number: u8,
-        place: usize,
-    },
+    Refused(Refusal),
 }
 
 // How many slots so many shapes have.
 fn slots_of(points: usize, circles: usize, arcs: usize) -> usize
-    requires { ⌜ (points ≤ most) × (circles ≤ most) × (arcs ≤ most) ⌝ }
-    ensures { λ r. ⌜ r ≡ points * 2 + circles * 3 + arcs * 6 ⌝ }
+    requires { ⌜ (points ≤ mostRecords) × (circles ≤ mostRecords) × (arcs ≤ mostRecords) ⌝ }
+    ensures { λ r. ⌜ r ≡ slotsFor points circles arcs ⌝ }
 {
-    points * 2 + circles * 3 + arcs * 6
+    points * VARS_PER_POINT + circles * VARS_PER_CIRCLE + arcs * VARS_PER_ARC
 }
 
 // 36, 37 or 38, whichever comes first, or 0.
@@ -86,7 +87,7 @@ pub fn lower(
 {
     let checked = check(text, records);
     match checked {
-        Checked::Refused { number, place } => Lowered::Refused { number, place },
+        Checked::Refused(r) => Lowered::Refused(r),
         Checked::Passed {
             points,
             circles,
@@ -96,10 +97,10 @@ pub fn lower(
             let slots = slots_of(points, circles, arcs);
             let told = lack(next, ids.len(), values.len(), rows.len(), slots, count);
             if told != 0 {
-                return Lowered::Refused {
+                return Lowered::Refused(Refusal {
                     number: told,
                     place: 0,
-                };
+                });
             }
             let layout = fill(text, records, next, ids, values, rows);
             Lowered::Good {

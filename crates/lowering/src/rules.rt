@@ -4,7 +4,7 @@ ghost use Prim.Native.Nat.{_+_, _≤_, _<_};
 ghost use lib.ListN.{length, take, drop};
 ghost use Rattle.record.specs.Kinds.{table};
 ghost use Rattle.record.specs.Entry.{entryAt};
-ghost use Rattle.record.specs.Formed.{most};
+ghost use Rattle.record.specs.Record.{mostRecords};
 ghost use Rattle.index.specs.Labels.{drawn};
 ghost use Rattle.layout.specs.Push.{over};
 ghost use Rattle.row.specs.Row.{mostIds};
@@ -12,11 +12,7 @@ ghost use Rattle.lowering.specs.Lower.{onto};
 ghost use Rattle.lowering.specs.Steps.{pointSix, circleSix, arcSix, sixOf, Tables, namingBy, spanOf, spanIds, Addable, Added, Sayable, Begins, rowIds, rowAt, Writing, Wrote, Writable, rowsBelow};
 use crate::spans::number;
 use crate::spans::span_of;
-use drawing::kinds::FIRST_RULE;
-use drawing::kinds::LAST_RULE;
-use drawing::kinds::NEW_ARC;
-use drawing::kinds::NEW_CIRCLE;
-use drawing::kinds::NEW_POINT;
+use index::HEADS;
 use index::chain;
 use index::labels::kind_at;
 use index::labels::label_at;
@@ -24,11 +20,17 @@ use layout::ArcIds;
 use layout::CircleIds;
 use layout::Layout;
 use layout::PointIds;
+use record::MOST;
 use record::SIZE;
 use record::decode::decode_record;
+use record::kinds::FIRST_RULE;
 use record::kinds::KINDS;
 use record::kinds::LABELS;
+use record::kinds::LAST_RULE;
 use record::kinds::NEEDS;
+use record::kinds::NEW_ARC;
+use record::kinds::NEW_CIRCLE;
+use record::kinds::NEW_POINT;
 use record::kinds::look;
 use row::ROW;
 use row::Row;
@@ -276,14 +278,14 @@ fn write_rows(
 
 // Writes the rows of a drawing by the ids of its layout.
 pub(crate) fn fill_rows(text: &[u8], records: &[u8], l: Layout, ids: &[u32], rows: &mut [u8])
-    requires { ⌜ (length (drawn (now text) (now records)) ≤ most) × Writable (drawn (now text) (now records)) l (now ids) (now rows) ⌝ }
+    requires { ⌜ (length (drawn (now text) (now records)) ≤ mostRecords) × Writable (drawn (now text) (now records)) l (now ids) (now rows) ⌝ }
     ensures { λ _. ⌜ now (rows .exit) ≡ onto (now (rows .entry)) (rowsBelow (drawn (now (text .entry)) (now (records .entry))) l (now (ids .entry)) (length (drawn (now (text .entry)) (now (records .entry))))) ⌝ }
 {
     let kinds = KINDS;
-    let mut numbers = [0u16; 1800];
+    let mut numbers = [0u16; MOST];
     number(records, &mut numbers);
-    let mut heads = [0u16; 1024];
-    let mut nexts = [0u16; 1800];
+    let mut heads = [0u16; HEADS];
+    let mut nexts = [0u16; MOST];
     chain(text, records, NEW_POINT, NEW_ARC, &mut heads, &mut nexts);
     write_rows(
         &kinds,

@@ -3,20 +3,16 @@ ghost use mathlib.Core.Path.{_≡_};
 ghost use Prim.Native.Nat.{_≤_, _<_};
 ghost use mathlib.Core.List.{_++_};
 ghost use lib.ListN.{length};
+ghost use Rattle.record.specs.Kinds.{pairGuess, numberGuess};
 ghost use Rattle.record.specs.Decode.{decodeAt};
-ghost use Rattle.record.specs.Formed.{most};
-ghost use Rattle.drawing.specs.Needs.{pairGuess, numberGuess};
+ghost use Rattle.record.specs.Record.{mostRecords};
 ghost use Rattle.index.specs.Labels.{drawn, labelled, lowestOr};
 ghost use Rattle.index.specs.Chains.{Chained};
 ghost use Rattle.layout.specs.Slots.{empty};
 ghost use Rattle.layout.specs.Push.{Push, state, nextOf};
 ghost use Rattle.lowering.specs.Steps.{pairFor, circleFor, arcFor, shapeFor, shapeOf, layoutAfter, pushedAt, pushedBelow, step as stepped, stage, laid, Slotted};
 use bits::from_bits;
-use drawing::kinds::NEW_ARC;
-use drawing::kinds::NEW_CIRCLE;
-use drawing::kinds::NEW_POINT;
-use drawing::kinds::NUMBER_GUESS;
-use drawing::kinds::PAIR_GUESS;
+use index::HEADS;
 use index::chain;
 use index::find_two;
 use index::labels::kind_at;
@@ -27,9 +23,15 @@ use layout::Layout;
 use layout::Point;
 use layout::Pushed;
 use layout::Stepped;
+use record::MOST;
 use record::Record;
 use record::SIZE;
 use record::decode::decode_record;
+use record::kinds::NEW_ARC;
+use record::kinds::NEW_CIRCLE;
+use record::kinds::NEW_POINT;
+use record::kinds::NUMBER_GUESS;
+use record::kinds::PAIR_GUESS;
 
 // A layout and the next id.
 pub(crate) struct Laid {
@@ -289,11 +291,11 @@ pub(crate) fn fill_slots(
     ids: &mut [u32],
     values: &mut [f64],
 ) -> Layout
-    requires { ⌜ length (drawn (now text) (now records)) ≤ most ⌝ }
+    requires { ⌜ length (drawn (now text) (now records)) ≤ mostRecords ⌝ }
     ensures { λ r. ⌜ Slotted (laid (drawn (now (text .entry)) (now (records .entry))) (state empty next (now (ids .entry)) (now (values .entry)))) r (now (ids .exit)) (now (values .exit)) ⌝ }
 {
-    let mut heads = [0u16; 1024];
-    let mut nexts = [0u16; 1800];
+    let mut heads = [0u16; HEADS];
+    let mut nexts = [0u16; MOST];
     chain(
         text,
         records,

@@ -4,19 +4,20 @@ ghost use mathlib.Core.Bool.{cond};
 ghost use Prim.Native.Nat.{_≤_, _<_};
 ghost use lib.ListN.{length, getD};
 ghost use Rattle.refusal.specs.First.{EachBelow};
+ghost use Rattle.record.specs.Kinds.{newPoint, newArc};
 ghost use Rattle.record.specs.Decode.{countOf as records-in, decodeAt};
 ghost use Rattle.index.specs.Labels.{drawn};
 ghost use Rattle.index.specs.Chains.{Chained};
 ghost use Rattle.drawing.specs.Check.{countBelow};
 ghost use Rattle.lowering.specs.Steps.{sizeBy, centerBy, axisAt, endsIn, wholeSpan, centerSpan, partSpan, namingBy, spanOf};
-use drawing::kinds::NEW_ARC;
-use drawing::kinds::NEW_CIRCLE;
-use drawing::kinds::NEW_POINT;
 use index::find;
 use index::labels::kind_at;
 use index::labels::same;
 use record::SIZE;
 use record::kinds::ASSIGNED;
+use record::kinds::NEW_ARC;
+use record::kinds::NEW_CIRCLE;
+use record::kinds::NEW_POINT;
 use record::kinds::ROUND;
 
 // The third byte for y.
@@ -59,7 +60,7 @@ fn axis_at(third: u8) -> usize
 
 // Every slot of a shape.
 fn whole_span(text: &[u8], records: &[u8], heads: &[u16], nexts: &[u16], label: &[u8]) -> Span
-    requires { ⌜ Chained (drawn (now text) (now records)) 1 3 (now heads) (now nexts) ⌝ }
+    requires { ⌜ Chained (drawn (now text) (now records)) newPoint newArc (now heads) (now nexts) ⌝ }
     ensures { λ r. ⌜ r ≡ wholeSpan (drawn (now (text .entry)) (now (records .entry))) (now (label .entry)) ⌝ }
 {
     let shape = find(text, records, NEW_POINT, NEW_ARC, heads, nexts, label);
@@ -79,7 +80,7 @@ fn center_span(
     third: u8,
     label: &[u8],
 ) -> Span
-    requires { ⌜ Chained (drawn (now text) (now records)) 1 3 (now heads) (now nexts) ⌝ }
+    requires { ⌜ Chained (drawn (now text) (now records)) newPoint newArc (now heads) (now nexts) ⌝ }
     ensures { λ r. ⌜ r ≡ centerSpan (drawn (now (text .entry)) (now (records .entry))) third (now (label .entry)) ⌝ }
 {
     let shape = find(text, records, NEW_POINT, NEW_ARC, heads, nexts, label);
@@ -110,7 +111,7 @@ fn part_span(
     third: u8,
     label: &[u8],
 ) -> Span
-    requires { ⌜ Chained (drawn (now text) (now records)) 1 3 (now heads) (now nexts) ⌝ }
+    requires { ⌜ Chained (drawn (now text) (now records)) newPoint newArc (now heads) (now nexts) ⌝ }
     ensures { λ r. ⌜ r ≡ partSpan (drawn (now (text .entry)) (now (records .entry))) third (now (label .entry)) ⌝ }
 {
     if ends_in(label, b".center") {
@@ -134,7 +135,7 @@ pub(crate) fn span_of(
     third: u8,
     label: &[u8],
 ) -> Span
-    requires { ⌜ Chained (drawn (now text) (now records)) 1 3 (now heads) (now nexts) ⌝ }
+    requires { ⌜ Chained (drawn (now text) (now records)) newPoint newArc (now heads) (now nexts) ⌝ }
     ensures { λ r. ⌜ r ≡ spanOf (drawn (now (text .entry)) (now (records .entry))) (namingBy code) third (now (label .entry)) ⌝ }
 {
     match code {

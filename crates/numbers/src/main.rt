@@ -1,6 +1,7 @@
 // Answers each line of standard input, of which at most a mebibyte is read. A line is an expression, read from its first
 // byte: its bits and the place after it, `refused` with number and place, or `nothing`. A line of `root`, a blank and
 // sixteen hex digits is answered by the bits of the root of the number with these bits.
+use batch::line::until;
 use libc::STDIN_FILENO;
 use libc::STDOUT_FILENO;
 use text::Stand;
@@ -124,26 +125,11 @@ fn answer(line: &[u8]) {
     put(b"\n");
 }
 
-// The place of the first new line from a place on, or the text's end.
-fn line_end(text: &[u8], at: usize) -> usize
-    requires { ⌜ at ≤ length (now text) ⌝ }
-    ensures { λ r. ⌜ (at ≤ r) × (r ≤ length (now (text .entry))) ⌝ }
-{
-    let mut i = at;
-    while i < text.len() {
-        if text[i] == b'\n' {
-            return i;
-        }
-        i += 1;
-    }
-    i
-}
-
 // Prints the answers to all lines.
 fn answer_all(text: &[u8]) {
     let mut at = 0;
     while at < text.len() {
-        let end = line_end(text, at);
+        let end = until(text, at, b'\n');
         answer(&text[at..end]);
         at = end + 1;
     }

@@ -1,406 +1,353 @@
-// Runs pushes, `done`s, lookups and readouts of a layout, with refusals at every boundary, and prints a line for each.
-use layout::Arc;
-use layout::Circle;
-use layout::Kind;
-use layout::Layout;
-use layout::Point;
-use layout::Pushed;
-use layout::Stage;
-use layout::Stepped;
-use say::put;
-use say::put_decimal;
-ghost use mathlib.Core.Path.{_≡_};
-ghost use lib.ListN.{length};
+// Answers the lines on standard input, which say what a layout is and what is lent, and ask for pushes, `done`s, lookups and readouts by the exported
+// functions. A line goes by its first letter, and its numbers stand behind its first word. tests/pushes.py writes the lines and says what each asks.
+use batch::line::number;
+use batch::line::until;
+use bridge::PARTS;
+use bridge::shapes;
+use layout::IDS_END;
+use layout::SLOTS;
+use libc::STDIN_FILENO;
+use libc::STDOUT_FILENO;
 
-mod say;
+// How many ids there can be: those that are given, and the one past them.
+const IDS: u64 = (IDS_END as u64) + 1;
 
-// The most shapes of a kind, and the most slots of a layout.
-const MOST: usize = 4000;
-
-const SLOTS: usize = 44000;
-
-// The counter's number when no ids are left.
-const NO_IDS: u32 = 4294967295;
-
-// A number that no shape has.
-const FAR: usize = 18446744073709551615;
-
-// A layout and the next id.
+// A layout by its counts and the number of its stage, the next id, and how much of each slice is lent.
 struct Now {
-    l: Layout,
-    next: u32,
-}
-
-// A layout with these counts at a stage.
-fn layout_of(points: usize, circles: usize, arcs: usize, stage: Stage) -> Layout {
-    Layout {
-        points,
-        circles,
-        arcs,
-        stage,
-    }
-}
-
-// Pushes a shape of a kind, whose components rise by a quarter from a first one.
-fn push(l: Layout, k: Kind, next: u32, ids: &mut [u32], values: &mut [f64], v: f64) -> Pushed {
-    let p = Point { x: v, y: v + 0.25 };
-    let q = Point {
-        x: v + 0.5,
-        y: v + 0.75,
-    };
-    let m = Point {
-        x: v + 1.0,
-        y: v + 1.25,
-    };
-    match k {
-        Kind::Point => l.push_point(next, ids, values, p),
-        Kind::Circle => l.push_circle(
-            next,
-            ids,
-            values,
-            Circle {
-                center: p,
-                radius: v + 0.5,
-            },
-        ),
-        Kind::Arc => l.push_arc(
-            next,
-            ids,
-            values,
-            Arc {
-                a: p,
-                b: q,
-                center: m,
-            },
-        ),
-    }
-}
-
-// What stands after a push: a refused one changes nothing.
-fn after(now: Now, pushed: Pushed) -> Now {
-    match pushed {
-        Pushed::Good(l, next) => Now { l, next },
-        Pushed::Refused(_) => now,
-    }
-}
-
-// Pushes a shape, and prints the answer.
-fn say_push(now: Now, k: Kind, ids: &mut [u32], values: &mut [f64], v: f64) -> Now {
-    let l = now.l;
-    let pushed = push(l, k, now.next, ids, values, v);
-    say::put_kind(k);
-    say::put_pushed(pushed);
-    after(now, pushed)
-}
-
-// Asks for `done`, and prints the answer.
-fn say_done(now: Now) -> Now {
-    let l = now.l;
-    let answer = l.done();
-    put(b"done");
-    say::put_stepped(answer);
-    match answer {
-        Stepped::Good(stepped) => Now {
-            l: stepped,
-            next: now.next,
-        },
-        Stepped::Refused(_) => now,
-    }
-}
-
-// Looks up and reads out the shapes of a number, and prints the answers.
-fn say_shapes(l: Layout, ids: &[u32], values: &[f64], i: usize) {
-    put(b"number");
-    put_decimal(i as u64);
-    put(b"\npoint_ids");
-    say::put_point_ids(l.point_ids(ids, i));
-    put(b"circle_ids");
-    say::put_circle_ids(l.circle_ids(ids, i));
-    put(b"arc_ids");
-    say::put_arc_ids(l.arc_ids(ids, i));
-    put(b"arc_slot_ids");
-    say::put_arc_ids(l.arc_slot_ids(ids, i));
-    put(b"point");
-    say::put_point_read(l.point(values, i));
-    put(b"circle");
-    say::put_circle_read(l.circle(values, i));
-    put(b"arc");
-    say::put_arc_read(l.arc(values, i));
-}
-
-// The same over the first n of each slice.
-fn say_part(l: Layout, ids: &[u32], values: &[f64], n: usize, i: usize) {
-    if ids.len() < n {
-        return;
-    }
-    if values.len() < n {
-        return;
-    }
-    say_shapes(l, &ids[..n], &values[..n], i);
-}
-
-// All shapes of the drawing and numbers past its end, over slices with a slot too many, just long enough, and short by one.
-fn say_drawing(l: Layout, ids: &[u32], values: &[f64]) {
-    say_shapes(l, ids, values, 0);
-    say_shapes(l, ids, values, 1);
-    say_shapes(l, ids, values, 2);
-    say_shapes(l, ids, values, FAR);
-    put(b"# the slices just long enough, and short by one\n");
-    say_part(l, ids, values, 13, 0);
-    say_part(l, ids, values, 12, 0);
-    say_part(l, ids, values, 12, 2);
-}
-
-// Two points, a circle and an arc, each stage asked for too early or too late; one slot more than they need stays as it was.
-fn drawing() {
-    put(b"# drawing\n");
-    let mut ids = [7u32; 14];
-    let mut values = [9.5f64; 14];
-    let empty = Now {
-        l: Layout::new(),
-        next: 10,
-    };
-    let one = say_push(empty, Kind::Point, &mut ids, &mut values, 1.0);
-    let two = say_push(one, Kind::Point, &mut ids, &mut values, 3.0);
-    let early = say_push(two, Kind::Circle, &mut ids, &mut values, 5.0);
-    let circles = say_done(early);
-    let late = say_push(circles, Kind::Point, &mut ids, &mut values, 7.0);
-    let three = say_push(late, Kind::Circle, &mut ids, &mut values, 9.0);
-    let sooner = say_push(three, Kind::Arc, &mut ids, &mut values, 11.0);
-    let arcs = say_done(sooner);
-    let four = say_push(arcs, Kind::Arc, &mut ids, &mut values, 13.0);
-    let five = say_push(four, Kind::Arc, &mut ids, &mut values, 15.0);
-    let end = say_done(five);
-    let over = say_push(end, Kind::Arc, &mut ids, &mut values, 17.0);
-    let still = say_done(over);
-    say::put_ids(&ids);
-    say::put_values(&values);
-    let l = still.l;
-    say_drawing(l, &ids, &values);
-}
-
-// Pushes a shape to a layout over the first n ids and m values, and prints the answer.
-fn say_alone(
-    ids: &mut [u32],
-    values: &mut [f64],
-    n: usize,
-    m: usize,
-    l: Layout,
-    k: Kind,
-    next: u32,
-) {
-    if ids.len() < n {
-        return;
-    }
-    if values.len() < m {
-        return;
-    }
-    let pushed = push(l, k, next, &mut ids[..n], &mut values[..m], 1.0);
-    say::put_kind(k);
-    say::put_pushed(pushed);
-}
-
-// A layout that cannot be: each function refuses it.
-fn say_impossible(ids: &mut [u32], values: &mut [f64], l: Layout) {
-    say_alone(ids, values, SLOTS, SLOTS, l, Kind::Point, 0);
-    say_alone(ids, values, SLOTS, SLOTS, l, Kind::Circle, 0);
-    say_alone(ids, values, SLOTS, SLOTS, l, Kind::Arc, NO_IDS);
-    put(b"done");
-    say::put_stepped(l.done());
-    say_shapes(l, &ids[..0], &values[..0], 0);
-}
-
-// The same of a layout with these counts at a stage.
-fn say_counts(
-    ids: &mut [u32],
-    values: &mut [f64],
     points: usize,
     circles: usize,
     arcs: usize,
-    stage: Stage,
-) {
-    say_impossible(ids, values, layout_of(points, circles, arcs, stage));
+    stage: usize,
+    next: u32,
+    ids: usize,
+    values: usize,
 }
 
-// Layouts with a count over the most.
-fn too_many(ids: &mut [u32], values: &mut [f64]) {
-    put(b"# a count over the most\n");
-    say_counts(ids, values, 4001, 0, 0, Stage::Points);
-    say_counts(ids, values, 0, 4001, 0, Stage::Circles);
-    say_counts(ids, values, 0, 0, 4001, Stage::Arcs);
-    say_counts(ids, values, FAR, FAR, FAR, Stage::Done);
+// What is told: 0 or a refusal's number, and six numbers.
+struct Told {
+    code: u64,
+    parts: [u64; PARTS],
 }
 
-// Layouts with shapes before their stage, and the largest layout, which can be.
-fn too_early(ids: &mut [u32], values: &mut [f64]) {
-    put(b"# shapes before their stage, and the largest layout\n");
-    say_counts(ids, values, 0, 1, 0, Stage::Points);
-    say_counts(ids, values, 0, 0, 1, Stage::Points);
-    say_counts(ids, values, 0, 0, 1, Stage::Circles);
-    say_counts(ids, values, 4000, 4000, 4000, Stage::Done);
+fn put(words: &[u8]) {
+    io::write_all(STDOUT_FILENO, words);
 }
 
-// Each kind at a stage, and `done`.
-fn say_stage(ids: &mut [u32], values: &mut [f64], stage: Stage) {
-    let l = layout_of(0, 0, 0, stage);
-    say_alone(ids, values, 6, 6, l, Kind::Point, 0);
-    say_alone(ids, values, 6, 6, l, Kind::Circle, 0);
-    say_alone(ids, values, 6, 6, l, Kind::Arc, 0);
-    put(b"done");
-    say::put_stepped(l.done());
+// Prints a number after a blank: an id by its digits, a value by its bits.
+fn put_number(n: u64, is_id: bool) {
+    put(b" ");
+    if is_id {
+        io::print_decimal(STDOUT_FILENO, n);
+    } else {
+        io::print_hex(STDOUT_FILENO, n, 16);
+    }
 }
 
-// Every kind at every stage.
-fn stages(ids: &mut [u32], values: &mut [f64]) {
-    put(b"# stages\n");
-    say_stage(ids, values, Stage::Points);
-    say_stage(ids, values, Stage::Circles);
-    say_stage(ids, values, Stage::Arcs);
-    say_stage(ids, values, Stage::Done);
+// Prints the first two, three or six numbers.
+fn put_parts(parts: [u64; PARTS], count: usize, are_ids: bool) {
+    put_number(parts[0], are_ids);
+    put_number(parts[1], are_ids);
+    if 2 < count {
+        put_number(parts[2], are_ids);
+    }
+    if 3 < count {
+        put_number(parts[3], are_ids);
+        put_number(parts[4], are_ids);
+        put_number(parts[5], are_ids);
+    }
+    put(b"\n");
 }
 
-// A push with just room enough, and with ids or values short by one.
-fn say_room(ids: &mut [u32], values: &mut [f64], l: Layout, k: Kind, end: usize) {
-    if end < 1 {
+// Prints a refusal's number and place.
+fn put_refusal(number: u64, place: u64) {
+    put(b" refused");
+    put_number(number, true);
+    put_number(place, true);
+    put(b"\n");
+}
+
+// Prints what a lookup or a readout tells, under its name.
+fn put_told(name: &[u8], code: u64, parts: [u64; PARTS], count: usize, are_ids: bool) {
+    put(name);
+    if code != 0 {
+        put_refusal(code, parts[0]);
         return;
     }
-    say_alone(ids, values, end, end, l, k, 0);
-    say_alone(ids, values, end - 1, end, l, k, 0);
-    say_alone(ids, values, end, end - 1, l, k, 0);
+    put_parts(parts, count, are_ids);
 }
 
-// The last slots, for each kind and for the largest layout.
-fn rooms(ids: &mut [u32], values: &mut [f64]) {
-    put(b"# room\n");
-    let points = layout_of(3, 0, 0, Stage::Points);
-    let circles = layout_of(3, 2, 0, Stage::Circles);
-    let arcs = layout_of(3, 2, 1, Stage::Arcs);
-    let last = layout_of(4000, 4000, 3999, Stage::Arcs);
-    say_room(ids, values, points, Kind::Point, 8);
-    say_room(ids, values, circles, Kind::Circle, 15);
-    say_room(ids, values, arcs, Kind::Arc, 24);
-    say_room(ids, values, last, Kind::Arc, SLOTS);
+// Prints the counts and the stage.
+fn put_layout(parts: [u64; PARTS]) {
+    put_number(parts[0], true);
+    put_number(parts[1], true);
+    put_number(parts[2], true);
+    match parts[3] {
+        0 => put(b" points"),
+        1 => put(b" circles"),
+        2 => put(b" arcs"),
+        _ => put(b" done"),
+    }
 }
 
-// A push with just ids enough, with one too few, with none, and with too little room besides.
-fn say_ids(ids: &mut [u32], values: &mut [f64], stage: Stage, k: Kind, last: u32) {
-    if NO_IDS <= last {
+// Prints what a push or `done` tells; after a push the next id too.
+fn put_step(letter: u8, t: Told) {
+    match letter {
+        b'P' => put(b"point"),
+        b'C' => put(b"circle"),
+        b'A' => put(b"arc"),
+        _ => put(b"done"),
+    }
+    let parts = t.parts;
+    if t.code != 0 {
+        put_refusal(t.code, parts[0]);
         return;
     }
-    let l = layout_of(0, 0, 0, stage);
-    say_alone(ids, values, 6, 6, l, k, last);
-    say_alone(ids, values, 6, 6, l, k, last + 1);
-    say_alone(ids, values, 6, 6, l, k, NO_IDS);
-    say_alone(ids, values, 1, 1, l, k, NO_IDS);
+    put_layout(parts);
+    if letter != b'D' {
+        put_number(parts[4], true);
+    }
+    put(b"\n");
 }
 
-// The last ids, for each kind.
-fn last_ids(ids: &mut [u32], values: &mut [f64]) {
-    put(b"# the last ids\n");
-    say_ids(ids, values, Stage::Points, Kind::Point, 4294967293);
-    say_ids(ids, values, Stage::Circles, Kind::Circle, 4294967292);
-    say_ids(ids, values, Stage::Arcs, Kind::Arc, 4294967289);
-}
-
-// As many shapes of a kind as there may be, and one less; with no room and no ids besides; at another stage besides.
-fn full(ids: &mut [u32], values: &mut [f64]) {
-    put(b"# full\n");
-    let points = layout_of(4000, 0, 0, Stage::Points);
-    let circles = layout_of(0, 4000, 0, Stage::Circles);
-    let arcs = layout_of(0, 0, 4000, Stage::Arcs);
-    say_alone(ids, values, SLOTS, SLOTS, points, Kind::Point, 0);
-    say_alone(ids, values, SLOTS, SLOTS, circles, Kind::Circle, 0);
-    say_alone(ids, values, 0, 0, arcs, Kind::Arc, NO_IDS);
-    say_alone(ids, values, 0, 0, arcs, Kind::Point, NO_IDS);
-}
-
-// Pushes as many shapes of a kind as a layout takes, each with its number as first component; prints the one refused.
-fn push_most(now: Now, k: Kind, ids: &mut [u32], values: &mut [f64]) -> Now {
-    let mut l = now.l;
-    let mut next = now.next;
-    let mut v = 0.0;
+// Prints all ids.
+fn put_ids(ids: &[u32]) {
+    put(b"ids");
     let mut i = 0;
-    while i < MOST {
-        let pushed = push(l, k, next, ids, values, v);
-        let then = after(Now { l, next }, pushed);
-        l = then.l;
-        next = then.next;
-        v += 1.0;
+    while i < ids.len() {
+        put_id(ids[i]);
         i += 1;
     }
-    let full = Now { l, next };
-    say_push(full, k, ids, values, v)
+    put(b"\n");
 }
 
-// The same, and `done` after them.
-fn push_kind(now: Now, k: Kind, ids: &mut [u32], values: &mut [f64]) -> Now {
-    say_done(push_most(now, k, ids, values))
+fn put_id(id: u32) {
+    put_number(id as u64, true);
+}
+
+// Prints all values.
+fn put_values(values: &[f64]) {
+    put(b"values");
+    let mut i = 0;
+    while i < values.len() {
+        put_number(bits::to_bits(values[i]), false);
+        i += 1;
+    }
+    put(b"\n");
+}
+
+// Prints how many ids rise by one from a first one.
+fn put_rising(ids: &[u32], first: u64) {
+    put(b"rising");
+    put_number(rising(ids, first), true);
+    put(b"\n");
 }
 
 // How many ids rise by one from a first one.
-fn rising(ids: &[u32], first: u32) -> u64 {
+fn rising(ids: &[u32], first: u64) -> u64 {
     let mut id = first;
     let mut i = 0;
     while i < ids.len() {
-        if ids[i] != id {
+        if wide(ids[i]) != id {
             return i as u64;
         }
-        if NO_IDS <= id {
-            return i as u64;
-        }
-        id += 1;
+        id = std::num::wrapping_add_u64(id, 1);
         i += 1;
     }
     i as u64
 }
 
-// The most shapes of each kind.
-fn push_all(ids: &mut [u32], values: &mut [f64]) -> Now {
-    put(b"# the most shapes\n");
-    let empty = Now {
-        l: Layout::new(),
-        next: 5,
-    };
-    let points = push_kind(empty, Kind::Point, ids, values);
-    let circles = push_kind(points, Kind::Circle, ids, values);
-    push_kind(circles, Kind::Arc, ids, values)
+fn wide(id: u32) -> u64 {
+    id as u64
 }
 
-// The first and the last of them.
-fn say_all(l: Layout, ids: &[u32], values: &[f64]) {
-    put(b"rising");
-    put_decimal(rising(ids, 5));
+// Looks up and reads out the shapes with a number, and prints the answers.
+fn look(now: Now, ids: &[u32], values: &[f64], i: usize) {
+    let p = now.points;
+    let c = now.circles;
+    let a = now.arcs;
+    let s = now.stage;
+    let mut out = [0u64; PARTS];
+    put(b"number");
+    put_number(i as u64, true);
     put(b"\n");
-    say_shapes(l, ids, values, 0);
-    say_shapes(l, ids, values, 3999);
-    say_shapes(l, ids, values, 4000);
+    let code = shapes::hunposeto_point_ids(p, c, a, s, ids, i, &mut out);
+    put_told(b"point_ids", code, out, 2, true);
+    let code = shapes::hunposeto_circle_ids(p, c, a, s, ids, i, &mut out);
+    put_told(b"circle_ids", code, out, 3, true);
+    let code = shapes::hunposeto_arc_ids(p, c, a, s, ids, i, &mut out);
+    put_told(b"arc_ids", code, out, 6, true);
+    let code = shapes::hunposeto_arc_slot_ids(p, c, a, s, ids, i, &mut out);
+    put_told(b"arc_slot_ids", code, out, 6, true);
+    let code = shapes::hunposeto_point(p, c, a, s, values, i, &mut out);
+    put_told(b"point", code, out, 2, false);
+    let code = shapes::hunposeto_circle(p, c, a, s, values, i, &mut out);
+    put_told(b"circle", code, out, 3, false);
+    let code = shapes::hunposeto_arc(p, c, a, s, values, i, &mut out);
+    put_told(b"arc", code, out, 6, false);
 }
 
-// Room for the ids.
-fn id_room() -> [u32; SLOTS]
-    ensures { λ r. ⌜ 44000 ≡ length r ⌝ }
-{
-    [0; SLOTS]
+// Steps the layout where the letter is that of `done`, and else pushes a shape of the letter's kind, whose components rise by a quarter from v.
+fn step(letter: u8, now: Now, ids: &mut [u32], values: &mut [f64], v: f64) -> Told {
+    let p = now.points;
+    let c = now.circles;
+    let a = now.arcs;
+    let s = now.stage;
+    let next = now.next;
+    let w = v + 0.25;
+    let x = v + 0.5;
+    let y = v + 0.75;
+    let mut out = [0u64; PARTS];
+    let code = match letter {
+        b'P' => shapes::hunposeto_push_point(p, c, a, s, next, ids, values, v, w, &mut out),
+        b'C' => shapes::hunposeto_push_circle(p, c, a, s, next, ids, values, v, w, x, &mut out),
+        b'A' => shapes::hunposeto_push_arc(
+            p,
+            c,
+            a,
+            s,
+            next,
+            ids,
+            values,
+            v,
+            w,
+            x,
+            y,
+            v + 1.0,
+            v + 1.25,
+            &mut out,
+        ),
+        _ => shapes::hunposeto_done(p, c, a, s, &mut out),
+    };
+    Told { code, parts: out }
 }
 
-// Room for the values.
-fn value_room() -> [f64; SLOTS]
-    ensures { λ r. ⌜ 44000 ≡ length r ⌝ }
-{
-    [0.0; SLOTS]
+// What stands after an answer: a refusal changes nothing, and `done` no id.
+fn after(letter: u8, now: Now, t: Told) -> Now {
+    if t.code != 0 {
+        return now;
+    }
+    let parts = t.parts;
+    let next = if letter == b'D' {
+        now.next
+    } else {
+        id(parts[4])
+    };
+    Now {
+        points: count(parts[0]),
+        circles: count(parts[1]),
+        arcs: count(parts[2]),
+        stage: count(parts[3]),
+        next,
+        ids: now.ids,
+        values: now.values,
+    }
+}
+
+// A number as an id, and as a count.
+fn id(n: u64) -> u32 {
+    (n % IDS) as u32
+}
+
+fn count(n: u64) -> usize {
+    n as usize
+}
+
+// Steps, and steps so many times more, each time with components larger by one; prints the last answer.
+fn steps(line: &[u8], now: Now, ids: &mut [u32], values: &mut [f64]) -> Now {
+    let letter = text::byte_at(line, 0);
+    let mut now = now;
+    let mut v = std::num::nearest_u64_to_f64(number(line, 1));
+    let mut left = number(line, 2) % IDS + 1;
+    while 0 < left {
+        let t = step(letter, now, ids, values, v);
+        now = after(letter, now, t);
+        if left == 1 {
+            put_step(letter, t);
+        }
+        v += 1.0;
+        left -= 1;
+    }
+    now
+}
+
+// Prints what stands behind `SAY` and a blank.
+fn say(line: &[u8]) {
+    if 4 <= line.len() {
+        put(&line[4..]);
+        put(b"\n");
+    }
+}
+
+// What stands after a line that gives a layout, the next id, or how much of each slice is lent.
+fn given(line: &[u8], now: Now) -> Now {
+    let mut then = now;
+    match text::byte_at(line, 0) {
+        b'L' => {
+            then.points = count(number(line, 1));
+            then.circles = count(number(line, 2));
+            then.arcs = count(number(line, 3));
+            then.stage = count(number(line, 4));
+        }
+        b'N' => then.next = id(number(line, 1)),
+        b'R' => {
+            then.ids = count(number(line, 1));
+            then.values = count(number(line, 2));
+        }
+        _ => {}
+    }
+    then
+}
+
+// Answers a line over what is lent, and hands on what stands after it.
+fn answer(line: &[u8], now: Now, ids: &mut [u32], values: &mut [f64]) -> Now {
+    match text::byte_at(line, 0) {
+        b'P' | b'C' | b'A' | b'D' => return steps(line, now, ids, values),
+        b'S' => say(line),
+        b'F' => look(now, ids, values, count(number(line, 1))),
+        b'I' => put_ids(ids),
+        b'V' => put_values(values),
+        b'U' => put_rising(ids, number(line, 1)),
+        _ => {}
+    }
+    given(line, now)
+}
+
+// Answers a line over the part of each slice that is lent.
+fn answer_in(line: &[u8], now: Now, ids: &mut [u32], values: &mut [f64]) -> Now {
+    let n = now.ids;
+    let m = now.values;
+    if ids.len() < n {
+        return now;
+    }
+    if values.len() < m {
+        return now;
+    }
+    answer(line, now, &mut ids[..n], &mut values[..m])
+}
+
+// Answers all lines.
+fn answer_all(text: &[u8], ids: &mut [u32], values: &mut [f64]) {
+    let mut now = Now {
+        points: 0,
+        circles: 0,
+        arcs: 0,
+        stage: 0,
+        next: 0,
+        ids: 0,
+        values: 0,
+    };
+    let mut at = 0;
+    while at < text.len() {
+        let end = until(text, at, b'\n');
+        now = answer_in(&text[at..end], now, ids, values);
+        at = end + 1;
+    }
 }
 
 fn main() {
-    let mut ids = id_room();
-    let mut values = value_room();
-    drawing();
-    too_many(&mut ids, &mut values);
-    too_early(&mut ids, &mut values);
-    stages(&mut ids, &mut values);
-    rooms(&mut ids, &mut values);
-    last_ids(&mut ids, &mut values);
-    full(&mut ids, &mut values);
-    let end = push_all(&mut ids, &mut values);
-    let l = end.l;
-    say_all(l, &ids, &values);
+    let mut input = io::large_buffer();
+    let n = io::read_full(STDIN_FILENO, &mut input);
+    let mut ids = [7u32; SLOTS];
+    let mut values = [9.5f64; SLOTS];
+    answer_all(&input[..n], &mut ids, &mut values);
 }

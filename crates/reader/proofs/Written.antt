@@ -1,21 +1,20 @@
 -- Every record that a reading writes fits its bytes, so that it comes back whole from them: its labels lie in a text that is not too
 -- long, and what its kind has no bytes for is 0. Assumes nothing.
 use mathlib.Core.Path.{_≡_, refl, sym, _∙_}
-use mathlib.Core.Logic.{inr}
-use mathlib.Core.Bool.{Bool, true, false, not, cond, true≢false}
+use mathlib.Core.Bool.{Bool, true, not, cond}
 use mathlib.Core.List.{List}
-use Prim.Native.Nat.{ℕ, zero, suc, _≤_, _<_}
+use Prim.Native.Nat.{ℕ, _≤_, _<_}
 use native.Mathlib.Omega.{arith}
-use native.Mathlib.Decide.{decLe, decLt}
+use native.Mathlib.Decide.{decLt}
 use lib.Dec.{leb, eqb}
 use lib.ListN.{length, getD}
 use Rattle.ground.proofs.Lists.{getD-inside}
 use Rattle.refusal.specs.First.{allBelow}
-use Rattle.refusal.proofs.Says.{fails, says-so, says-not, says-eq, says-le, says-cond, says-all, says-or}
+use Rattle.refusal.proofs.Says.{says-so, says-not, says-eq, says-le, says-cond, says-all}
 use Rattle.record.specs.Kinds.{kinds, kindAt, pair}
 use Rattle.record.specs.Record.{labelPlaces, longestText, firstGuess, encodeAll}
-use Rattle.record.specs.Decode.{hasPlace, Short, Fits, noRecord, decodeAt}
-use Rattle.record.specs.Entry.{noView, viewOf, named, entryOf}
+use Rattle.record.specs.Decode.{Short, Fits, noRecord, decodeAt}
+use Rattle.record.specs.Entry.{viewOf, named, entryOf}
 use Rattle.record.specs.declared.Record.{Record}
 use Rattle.record.proofs.Back.{decode-all}
 use Rattle.record.proofs.UpTo.{length-up-to}
@@ -47,24 +46,13 @@ module _ (s : List ℕ) (short : length s ≤ longestText) (guess : Bool) (r : R
       (λ g. sym n ∙ p .sound .count ∙ w .0 g, w .1)
 
   -- a place that its form does not have lies behind the one label of a guess
-  label-absent : (q : ℕ) → q < labelPlaces → hasPlace (r .kind) q ≡ false → viewOf r q ≡ noView
-  label-absent q h e =
-      elim (decLe firstGuess (r .kind)) [
-        | yes g ↦ p .placed q h .unused (omega (arith, shape .0 g, behind q e))
-        | no g ↦ absurd (fails (says-or (says-eq q 0) (says-not (says-le firstGuess (r .kind)))) e (inr g))
-      ]
-    where
-      behind : (q : ℕ) → hasPlace (r .kind) q ≡ false → 0 < q
-      behind zero e = absurd (true≢false e)
-      behind (suc q) e = omega arith
-
   proper-fits : Fits r
   unfolding entryOf
   proper-fits =
       record {
         places = p .places;
         short = label-short;
-        absent = label-absent;
+        absent = λ g q h b. p .placed q h .unused (omega (arith, shape .0 g, b));
         x-fits = p .x-fits;
         y-fits = p .y-fits;
         no-y = λ h. p .sound .no-y (shape .1 (λ g. omega (arith, g, h)));

@@ -1,6 +1,6 @@
 -- Decode after encode is the identity, on a record and on a list of records: each view and each number comes back from its bytes. Assumes nothing.
 use mathlib.Core.Path.{_≡_, refl, sym, ap, _∙_}
-use mathlib.Core.Bool.{Bool, true, false, not, cond}
+use mathlib.Core.Bool.{Bool, true, false, cond}
 use mathlib.Core.List.{List, [], _∷_, _++_, append-nil}
 use Prim.Native.Nat.{ℕ, zero, suc, _+_, _-_, _*_, _<_}
 use native.Mathlib.Nat.{not-suc-le-zero}
@@ -8,7 +8,7 @@ use native.Mathlib.Omega.{arith}
 use lib.Dec.{lit<}
 use lib.ListN.{length, getD, take, drop, length-append}
 use lib.Seq.{take-at, drop-at, drop-drop}
-use borrow.Author.Tests.{leb-false, lt-ltb}
+use borrow.Author.Tests.{leb-true, leb-false, lt-ltb}
 use Rattle.refusal.specs.First.{EachBelow}
 use Rattle.bytes.proofs.Little.{number-le}
 use Rattle.bytes.specs.Little.{byte}
@@ -16,7 +16,7 @@ use Rattle.record.specs.Entry.{noView, viewOf}
 use Rattle.record.specs.declared.View.{View}
 use Rattle.record.specs.declared.Record.{Record}
 use Rattle.record.specs.Record.{recordBytes, firstGuess, instruction, guess, encode, encodeAll, labelPlaces, encodeView}
-use Rattle.record.specs.Decode.{isGuess, decode, countOf, recordOf, noRecord, decodeAt, Fits, viewAt, placeIn, hasPlace, Short}
+use Rattle.record.specs.Decode.{isGuess, decode, countOf, recordOf, noRecord, decodeAt, Fits, viewAt, placeIn, Short}
 use Rattle.record.proofs.UpTo.{up-to-list, each-place}
 
 -- ---- a record of a list
@@ -33,15 +33,14 @@ view-back : (v : View) → Short v → viewAt (encodeView v) 0 ≡ v
 view-back v h i = record { start = number-le 2 (v .start) (h .start-fits) i; len = number-le 2 (v .len) (h .len-fits) i }
 
 module _ (r : Record) (rest : List ℕ) (h : Fits r) where
-  -- a label place that the record's form has not
-  place-gone : (q : ℕ) → q < labelPlaces → hasPlace (r .kind) q ≡ false → placeIn (guess r ++ rest) q ≡ viewOf r q
-  place-gone q l e = rw e (sym (h .absent q l e))
-
   -- each label place, of a guess and of an instruction
   place-back : (g : Bool) → isGuess (r .kind) ≡ g → EachBelow labelPlaces (λ q. placeIn (cond g (guess r) (instruction r) ++ rest) q ≡ viewOf r q)
   place-back true e =
+      let none = h .absent (leb-true firstGuess (r .kind) e) in
       each-place _ (view-back (viewOf r 0) (h .short 0 (lit< tt)))
-      (place-gone 1 (lit< tt) (ap not e)) (place-gone 2 (lit< tt) (ap not e)) (place-gone 3 (lit< tt) (ap not e))
+      (rw e (sym (none 1 (lit< tt) (lit< tt))))
+      (rw e (sym (none 2 (lit< tt) (lit< tt))))
+      (rw e (sym (none 3 (lit< tt) (lit< tt))))
   place-back false e =
       each-place _ (view-back (viewOf r 0) (h .short 0 (lit< tt)))
       (rw e (view-back (viewOf r 1) (h .short 1 (lit< tt))))

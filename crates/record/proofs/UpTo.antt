@@ -1,8 +1,8 @@
 -- The laws of the list f 0, f 1, .., up to a count: its length, what stands at a place, and which lists are such a list. And what holds of each
 -- label place of a record. Assumes nothing.
 use mathlib.Core.Path.{_≡_, refl, ap, _∙_, subst}
-use mathlib.Core.List.{List, [], _∷_, map}
-use Prim.Native.Nat.{ℕ, zero, suc, _<_}
+use mathlib.Core.List.{List, [], _∷_, _++_, map}
+use Prim.Native.Nat.{ℕ, zero, suc, _+_, _<_}
 use native.Mathlib.Nat.{le-of-suc-le-suc, not-suc-le-zero}
 use native.Mathlib.Omega.{arith}
 use lib.ListN.{length, getD}
@@ -19,6 +19,13 @@ module _ {A : Type 0} where
   getD-up-to zero f i d h = absurd (not-suc-le-zero h)
   getD-up-to (suc n) f zero d h = refl
   getD-up-to (suc n) f (suc i) d h = getD-up-to n (λ k. f (suc k)) i d (le-of-suc-le-suc h)
+
+  -- one more
+  pub up-to-more : (n : ℕ) (f : ℕ → A) → upTo (n + 1) f ≡ upTo n f ++ (f n ∷ [])
+  up-to-more zero f = refl
+  up-to-more (suc n) f =
+      let e : suc n + 1 ≡ suc (n + 1) = omega arith in
+      rw e (ap (λ (l : List A). f zero ∷ l) (up-to-more n (λ k. f (suc k))))
 
   -- the same at each place below a count
   pub up-to-same : (n : ℕ) (f g : ℕ → A) → EachBelow n (λ i. f i ≡ g i) → upTo n f ≡ upTo n g

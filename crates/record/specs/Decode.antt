@@ -1,8 +1,8 @@
 -- A record back from its bytes, and which records come back whole (docs/FORMAT.md, "Record").
 use mathlib.Core.Path.{_≡_}
-use mathlib.Core.Bool.{Bool, false, not, _||_, cond}
+use mathlib.Core.Bool.{Bool, not, _||_, cond}
 use mathlib.Core.List.{List}
-use Prim.Native.Nat.{ℕ, _+_, _*_, _/_, _^_, _<_}
+use Prim.Native.Nat.{ℕ, _+_, _*_, _/_, _^_, _≤_, _<_}
 use lib.Dec.{leb, ltb, eqb}
 use lib.ListN.{length, take, drop, replicate}
 use Rattle.refusal.specs.First.{EachBelow}
@@ -72,7 +72,8 @@ pub record Short (v : View) : Type 0 where
 pub record Fits (r : Record) : Type 0 where
   pub places : length (r .labels) ≡ labelPlaces
   pub short : EachBelow labelPlaces (λ q. Short (viewOf r q))
-  pub absent : EachBelow labelPlaces (λ q. hasPlace (r .kind) q ≡ false → viewOf r q ≡ noView)
+  -- a guess has one label
+  pub absent : firstGuess ≤ r .kind → EachBelow labelPlaces (λ q. 0 < q → viewOf r q ≡ noView)
   pub x-fits : r .x < 2 ^ 64
   pub y-fits : r .y < 2 ^ 64
   -- an instruction has one number

@@ -1,7 +1,7 @@
 -- A record and its bytes (docs/FORMAT.md, "Record").
 use mathlib.Core.Bool.{cond}
 use mathlib.Core.List.{List, [], _∷_, _++_}
-use Prim.Native.Nat.{ℕ, _-_}
+use Prim.Native.Nat.{ℕ, _*_, _-_}
 use lib.Dec.{leb}
 use lib.ListN.{replicate}
 use Rattle.ground.specs.Lists.{flat}
@@ -20,6 +20,10 @@ recordBytes = 28
 -- the most records of a list
 abbrev pub mostRecords : ℕ
 mostRecords = 1800
+
+-- the room that so many take
+abbrev pub recordRoom : ℕ
+recordRoom = mostRecords * recordBytes
 
 -- the longest text
 abbrev pub longestText : ℕ

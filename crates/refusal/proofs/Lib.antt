@@ -2,3 +2,4 @@ pub mod Says
 pub mod Search
 pub mod Right
 pub mod Told
+pub mod Once

@@ -4,6 +4,8 @@ use mathlib.Core.Bool.{Bool, true, false, _&&_, _||_, cond}
 use mathlib.Core.Option.{Option, none, some}
 use mathlib.Core.List.{List, [], _∷_, List·Memᴰ}
 use Prim.Native.Nat.{ℕ, zero, suc, _<_}
+use Rattle.refusal.specs.declared.Refusal.{Refusal}
+use Rattle.refusal.specs.Refusal.{refusal}
 
 -- ---- in words
 
@@ -70,3 +72,14 @@ tell f none a = a
 unfoldable pub first : {F : Type 0} → List F → (F → ℕ → Bool) → ℕ → Answer F
 first [] test n = passed
 first (f ∷ order) test n = tell f (lowest n (test f)) (first order test n)
+
+-- the first of faults that hold at no place of their own: it is told at 0
+unfoldable pub once : {F : Type 0} → List F → (F → Bool) → Answer F
+once order test = first order (λ f i. test f) 1
+
+-- ---- what is answered
+
+-- a refusal with the number of its fault, at its place, or else what is good
+unfoldable pub answered : {F A : Type 0} → (F → ℕ) → (Refusal → A) → Answer F → A → A
+answered number refuse (refused f i) good = refuse (refusal (number f) i)
+answered number refuse passed good = good

@@ -1,10 +1,16 @@
-// Lowers pages with too few ids, with short slices and row buffers, and with damaged records, one lack at a time and two together. Prints a line for what is
-// told of each, and whether everything lent stayed as it was.
+// Lowers pages with what the lines on standard input lend, and prints what is told and whether everything lent stayed as it was. A line goes by its first
+// letter: `PAGE`, behind which a page stands, up to a `;`; `LOWER NEXT IDS VALUES BYTES I`, with so much lent, and with the byte of its records at place I
+// damaged, if there is one; `SAY`, which prints the rest of the line.
+use batch::line::number;
+use batch::line::until;
+use layout::IDS_END;
+use libc::STDIN_FILENO;
 use libc::STDOUT_FILENO;
 use lowering::Lowered;
 use rail::Place;
 use reader::Reading;
 use record::SIZE;
+ghost use Prim.Native.Nat.{_≤_};
 
 // Room for the records of a page: 1,800 of 28 bytes.
 const ROOM: usize = 50_400;
@@ -19,12 +25,13 @@ const ID: u32 = 7;
 
 const BYTE: u8 = 9;
 
-// What is lent: the next id, and how much of each slice.
-struct Lent {
-    next: u32,
-    ids: usize,
-    values: usize,
-    rows: usize,
+// How many ids there can be: those that are given, and the one past them.
+const IDS: u64 = (IDS_END as u64) + 1;
+
+// A page by the places where it begins and ends.
+struct Page {
+    start: usize,
+    end: usize,
 }
 
 fn put(words: &[u8]) {
@@ -39,52 +46,11 @@ fn put_lowered(r: Lowered, out: &mut [u8]) {
     if out.len() < n {
         return;
     }
-    io::write_all(STDOUT_FILENO, &out[..n]);
+    put(&out[..n]);
 }
 
-// Lowers records with so much of these lent.
-fn lower_with(
-    text: &[u8],
-    records: &[u8],
-    lent: Lent,
-    ids: &mut [u32],
-    values: &mut [f64],
-    rows: &mut [u8],
-) -> Lowered {
-    let i = lent.ids;
-    let v = lent.values;
-    let b = lent.rows;
-    let none = Lowered::Refused {
-        number: 0,
-        place: 0,
-    };
-    if ids.len() < i {
-        return none;
-    }
-    if values.len() < v {
-        return none;
-    }
-    if rows.len() < b {
-        return none;
-    }
-    lowering::lower(
-        text,
-        records,
-        lent.next,
-        &mut ids[..i],
-        &mut values[..v],
-        &mut rows[..b],
-    )
-}
-
-// Lowers records with so much lent, and prints what is told; the lent things are looked at where the plate's first and last slots and rows are.
-fn lower(text: &[u8], records: &[u8], lent: Lent) {
-    let mut ids = [ID; SLOTS];
-    let mut values = [0.5; SLOTS];
-    let mut rows = [BYTE; BYTES];
-    let r = lower_with(text, records, lent, &mut ids, &mut values, &mut rows);
-    let mut line = [0u8; 200];
-    put_lowered(r, &mut line);
+// Prints whether everything lent is as it was, where the plate's first and last slots and rows are.
+fn put_kept(ids: [u32; SLOTS], values: [f64; SLOTS], rows: [u8; BYTES]) {
     if (ids[0] == ID)
         & (ids[12] == ID)
         & (values[0] == 0.5)
@@ -96,6 +62,36 @@ fn lower(text: &[u8], records: &[u8], lent: Lent) {
     } else {
         put(b"ids, values and rows are written\n");
     }
+}
+
+// A number of a line, the most where it is larger.
+fn up_to(line: &[u8], k: usize, most: usize) -> usize
+    ensures { λ r. ⌜ r ≤ most ⌝ }
+{
+    let n = number(line, k) as usize;
+    if n < most { n } else { most }
+}
+
+// Lowers records with so much lent as a line says, and prints what is told.
+fn lower(text: &[u8], records: &[u8], line: &[u8]) {
+    let next = (number(line, 1) % IDS) as u32;
+    let i = up_to(line, 2, SLOTS);
+    let v = up_to(line, 3, SLOTS);
+    let b = up_to(line, 4, BYTES);
+    let mut ids = [ID; SLOTS];
+    let mut values = [0.5; SLOTS];
+    let mut rows = [BYTE; BYTES];
+    let r = lowering::lower(
+        text,
+        records,
+        next,
+        &mut ids[..i],
+        &mut values[..v],
+        &mut rows[..b],
+    );
+    let mut line = [0u8; 200];
+    put_lowered(r, &mut line);
+    put_kept(ids, values, rows);
 }
 
 // How many bytes the records of a reading take.
@@ -122,94 +118,68 @@ fn damage(records: &mut [u8], at: usize) {
     }
 }
 
-// Reads a page, damages the byte of its records at a place, lowers it and prints what is told.
-fn read_and_lower(text: &[u8], damaged: usize, lent: Lent, records: &mut [u8]) {
+// Reads a page, damages a byte of its records, and lowers it.
+fn read_and_lower(text: &[u8], line: &[u8], records: &mut [u8]) {
     let r = reader::parse_whole(text, records);
-    damage(records, damaged);
+    damage(records, number(line, 5) as usize);
     let n = bytes_of(r);
     if records.len() < n {
         return;
     }
-    lower(text, &records[..n], lent);
+    lower(text, &records[..n], line);
 }
 
-// Does so under a name.
-fn run(name: &[u8], text: &[u8], damaged: usize, lent: Lent) {
-    put(name);
-    put(b"\n");
+// Does so with a page of a text.
+fn lower_page(text: &[u8], page: Page, line: &[u8]) {
+    let start = page.start;
+    let end = page.end;
+    if end < start {
+        return;
+    }
+    if text.len() < end {
+        return;
+    }
     let mut records = [0u8; ROOM];
-    read_and_lower(text, damaged, lent, &mut records);
+    read_and_lower(&text[start..end], line, &mut records);
 }
 
-// The plate with its hole and its corner: 16 records, 13 slots, and 5 rows, which take 220 bytes.
-fn plate(name: &[u8], damaged: usize, lent: Lent) {
-    run(
-        name,
-        b"# constraints\npoint p\npoint q\ncircle hole\narc corner\np = (0, 0)\nhorizontal(p, q)\nradius(hole, 2)\nis_arc(corner)\n\n# guesses\np roughly (0, 0)\nq roughly (10, 0)\nhole.center roughly (3, 4)\nhole.radius roughly 2\ncorner.a roughly (10, 0)\ncorner.b roughly (15, 5)\ncorner.center roughly (10, 5)\n",
-        damaged,
-        lent,
-    );
-}
-
-// The plate with so much lent, and nothing damaged.
-fn lend(name: &[u8], next: u32, ids: usize, values: usize, rows: usize) {
-    plate(
-        name,
-        ROOM,
-        Lent {
-            next,
-            ids,
-            values,
-            rows,
-        },
-    );
-}
-
-// Enough for a page of a few shapes.
-fn enough() -> Lent {
-    Lent {
-        next: 0,
-        ids: SLOTS,
-        values: SLOTS,
-        rows: BYTES,
+// Prints what stands behind `SAY` and a blank.
+fn say(line: &[u8]) {
+    if 4 <= line.len() {
+        put(&line[4..]);
+        put(b"\n");
     }
 }
 
-// No ids, no slots and no bytes.
-fn nothing() -> Lent {
-    Lent {
-        next: 4_294_967_295,
-        ids: 0,
-        values: 0,
-        rows: 0,
+// Answers a line of a text, behind which the text goes on at a place, and hands on the page.
+fn answer(text: &[u8], line: &[u8], then: usize, page: Page) -> Page {
+    match text::byte_at(line, 0) {
+        b'P' => {
+            return Page {
+                start: then,
+                end: until(text, then, b';'),
+            };
+        }
+        b'L' => lower_page(text, page, line),
+        b'S' => say(line),
+        _ => {}
+    }
+    page
+}
+
+// Answers all lines.
+fn answer_all(text: &[u8]) {
+    let mut page = Page { start: 0, end: 0 };
+    let mut at = 0;
+    while at < text.len() {
+        let end = until(text, at, b'\n');
+        page = answer(text, &text[at..end], end + 1, page);
+        at = end + 1;
     }
 }
 
 fn main() {
-    lend(b"just enough", 0, 13, 13, 220);
-    lend(b"the last ids", 4_294_967_282, 13, 13, 220);
-    lend(b"one id too few", 4_294_967_283, 13, 13, 220);
-    lend(b"no id left", 4_294_967_295, 13, 13, 220);
-    lend(b"a place for an id too few", 0, 12, 13, 220);
-    lend(b"a place for a value too few", 0, 13, 12, 220);
-    lend(b"a byte for rows too few", 0, 13, 13, 219);
-    lend(b"ids and places too few", 4_294_967_283, 12, 12, 220);
-    lend(b"places and bytes too few", 0, 12, 12, 219);
-    lend(b"ids and bytes too few", 4_294_967_283, 13, 13, 219);
-    lend(b"nothing lent", 4_294_967_295, 0, 0, 0);
-    plate(b"the first record damaged", 0, enough());
-    plate(b"the last record damaged", 420, enough());
-    plate(b"a record damaged, and nothing lent", 28, nothing());
-    run(
-        b"a label declared twice, and the last record damaged",
-        b"# constraints\npoint p\npoint p\n\n# guesses\np roughly (0, 0)\n",
-        56,
-        enough(),
-    );
-    run(
-        b"a part without guess, and nothing lent",
-        b"# constraints\npoint p\npoint q\n\n# guesses\np roughly (0, 0)\n",
-        ROOM,
-        nothing(),
-    );
+    let mut input = io::large_buffer();
+    let n = io::read_full(STDIN_FILENO, &mut input);
+    answer_all(&input[..n]);
 }

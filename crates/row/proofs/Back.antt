@@ -1,24 +1,19 @@
 -- A row has 44 bytes and comes back whole from them: each id from four bytes, and the number from eight. Assumes nothing.
 use mathlib.Core.Path.{_≡_, refl, sym, ap, _∙_}
-use mathlib.Core.List.{List, [], _∷_}
-use Prim.Native.Nat.{ℕ, zero, suc, _^_, _<_}
+use mathlib.Core.List.{List}
+use Prim.Native.Nat.{ℕ, _^_, _<_}
 use native.Mathlib.Omega.{arith}
 use lib.ListN.{length, getD}
 use borrow.Author.Tests.{le-ltb}
 use Rattle.bytes.specs.Little.{u64}
 use Rattle.bytes.proofs.Little.{number-le}
 use Rattle.record.specs.Entry.{upTo}
-use Rattle.record.proofs.UpTo.{getD-up-to}
+use Rattle.record.proofs.UpTo.{getD-up-to, up-to-list}
 use Rattle.row.specs.Row.{Row, rowBytes, mostIds, eight, held, bytesOf, encodeRow, idAt, heldIn, meant, decodeRow, RowFits}
 
 pub length-row : (r : Row) → length (encodeRow r) ≡ rowBytes
 unfolding encodeRow bytesOf
 length-row r = refl
-
--- a list by what stands at its places
-up-to-list : (l : List ℕ) (f : ℕ → ℕ) → ((q : ℕ) → q < length l → f q ≡ getD l q 0) → upTo (length l) f ≡ l
-up-to-list [] f h = refl
-up-to-list (x ∷ l) f h = rw (h zero (omega arith)) (ap (λ (t : List ℕ). x ∷ t) (up-to-list l (λ q. f (suc q)) (λ q b. h (suc q) (omega arith))))
 
 module _ (r : Row) where
   -- id q of eight
@@ -50,4 +45,4 @@ module _ (r : Row) where
         ap meant fields-back
         ∙ rw (le-ltb mostIds (length (r .ids)) (fits .few))
         (ap (λ (l : List ℕ). record { kind = r .kind; third = r .third; ids = l; bits = r .bits })
-        (up-to-list (r .ids) (λ q. getD (eight (r .ids)) q 0) (λ q b. eight-at q (omega (arith, b, fits .few)))))
+        (up-to-list (length (r .ids)) (r .ids) 0 (λ q. getD (eight (r .ids)) q 0) refl (λ q b. eight-at q (omega (arith, b, fits .few)))))

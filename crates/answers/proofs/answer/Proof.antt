@@ -7,11 +7,12 @@ use lib.ListN.{length-replicate}
 use lib.Seq.{length-take-le}
 use borrow.Author.Needs.{needs}
 use Rattle.answers.proofs.Records.{few-read, read-is, refused-answer, good-answer}
+use Rattle.record.specs.Record.{recordRoom}
 use Rattle.answers.proofs.answer.Statement.{statement}
 use Rattle.answers.proofs.answer.Tie as tie
 
 returns : tie.Need-returns
-returns c = rw (refused-answer _ (c .before .before .before .before .before .before .before .read .ensures) (length-replicate {0} {A = ℕ} 50400 0) (c .before .before .before .before .enum-told .given .1)) (c .before .before .first-line .ensures)
+returns c = rw (refused-answer _ (c .before .before .before .before .before .before .before .read .ensures) (length-replicate {0} {A = ℕ} recordRoom 0) (c .before .before .before .before .enum-told .given .1)) (c .before .before .first-line .ensures)
 
 add-n : tie.Need-add-n
 add-n c = omega (arith, few-read (c .before .before .before .before .read .ensures) (c .before .reading .given .1))
@@ -21,17 +22,17 @@ mul-n c = omega (arith, few-read (c .before .before .before .before .read .ensur
 
 array-share-prefix-records : tie.Need-array-share-prefix-records
 array-share-prefix-records c =
-    omega (arith, few-read (c .before .before .before .before .read .ensures) (c .before .reading .given .1), c .before .before .before .before .read .kept .1 .1 .0, length-replicate {0} {A = ℕ} 50400 0)
+    omega (arith, few-read (c .before .before .before .before .read .ensures) (c .before .reading .given .1), c .before .before .before .before .read .kept .1 .1 .0, length-replicate {0} {A = ℕ} recordRoom 0)
 
 slice-aggregate-tell : tie.Need-slice-aggregate-tell
 slice-aggregate-tell c =
-    sym (length-take-le _ _ (omega (arith, few-read (c .before .before .before .before .before .read .ensures) (c .before .before .reading .given .1), c .before .before .before .before .before .read .kept .1 .1 .0, length-replicate {0} {A = ℕ} 50400 0)))
+    sym (length-take-le _ _ (omega (arith, few-read (c .before .before .before .before .before .read .ensures) (c .before .before .reading .given .1), c .before .before .before .before .before .read .kept .1 .1 .0, length-replicate {0} {A = ℕ} recordRoom 0)))
 
 tell-requires : tie.Need-tell-requires
 tell-requires c κs = read-is (c .before .before .before .before .before .before .read .ensures) (c .before .before .before .reading .given .1)
 
 returns-2 : tie.Need-returns-2
-returns-2 c = rw (good-answer _ (c .before .before .before .before .before .before .before .before .before .read .ensures) (length-replicate {0} {A = ℕ} 50400 0) (c .before .before .before .before .before .before .reading .given .1)) (c .before .before .tell .ensures)
+returns-2 c = rw (good-answer _ (c .before .before .before .before .before .before .before .before .before .read .ensures) (length-replicate {0} {A = ℕ} recordRoom 0) (c .before .before .before .before .before .before .reading .given .1)) (c .before .before .tell .ensures)
 
 pub answer-spec : {M : Type 1} → statement M
 answer-spec =

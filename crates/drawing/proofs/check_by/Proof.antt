@@ -1,45 +1,53 @@
 -- `drawing::check_by` meets its contract: behind 30 the check is that of the faults that are left. The measure is how many are left.
 -- Assumes nothing.
 use borrow.Author.Needs.{needs}
-use mathlib.Core.Path.{_≡_, _∙_}
+use mathlib.Core.Path.{_≡_, ap, _∙_}
 use Prim.Native.Nat.{_-_, _≤_}
 use native.Mathlib.Omega.{arith}
-use lib.ListN.{drop}
+use lib.ListN.{length, drop}
 use Rattle.refusal.specs.First.{first}
 use Rattle.record.specs.Decode.{countOf}
-use Rattle.index.specs.Labels.{drawn}
+use Rattle.index.specs.Labels.{drawn, lowestOr}
 use Rattle.drawing.specs.Faults.{behind30}
 use Rattle.drawing.specs.Check.{test, checkOf}
-use Rattle.drawing.proofs.Order.{stops, goes-on, ends, check-is, told-behind, told-none}
+use Rattle.drawing.proofs.Order.{faultAt, stops, goes-on, ends, test-at, check-is, told-behind, told-none}
 use Rattle.drawing.proofs.check_by.Statement.{statement}
 use Rattle.drawing.proofs.check_by.Tie as tie
 
 abbrev Inv-loop : tie.InvT-loop
-Inv-loop kinds text records heads nexts guess-heads guess-nexts n f₀ f =
-    (f ≤ 5) × (checkOf (drawn text records) ≡ first (drop f behind30) (test (drawn text records)) (countOf records))
+Inv-loop kinds text records heads nexts guess-heads guess-nexts n order k₀ k =
+    (k ≤ length behind30) × (checkOf (drawn text records) ≡ first (drop k behind30) (test (drawn text records)) (countOf records))
 
 abbrev μ-loop : tie.MeasureT-loop
-μ-loop kinds text records heads nexts guess-heads guess-nexts n f₀ f = 5 - f
+μ-loop kinds text records heads nexts guess-heads guess-nexts n order k₀ k = length behind30 - k
 
 loop-holds : tie.Need-loop-holds Inv-loop μ-loop
 loop-holds c =
     let s = c .before .before .before .before .before .before in
     (omega arith, check-is (s .args .text .now) (s .args .records .now) (s .pre .0))
 
+-- what was looked for by the number of fault k
+found : (c : tie.After-lowest-bad Inv-loop μ-loop) → let a = c .before .before .before .before .before .before .before .before .before .args in
+    c .lowest-bad .result ≡ lowestOr (countOf (a .records .now)) (test (drawn (a .text .now) (a .records .now)) (faultAt (c .before .before .loop .k)))
+found c =
+    let a = c .before .before .before .before .before .before .before .before .before .args in
+    c .lowest-bad .ensures
+    ∙ ap (lowestOr (countOf (a .records .now))) (test-at (drawn (a .text .now) (a .records .now)) (c .before .before .loop .k) (omega (arith, c .before .loop-test .taken)))
+
 returns : tie.Need-returns Inv-loop μ-loop
 returns c =
     let s = c .before .before .before .before .before .before .before .before .before .before in
     let a = s .args in
     let l = c .before .before .before .loop in
-    told-behind (a .text .now) (a .records .now) (s .pre .0) (l .f) (c .before .lowest-bad .result) (omega arith)
-    (l .inv .1 ∙ stops (test (drawn (a .text .now) (a .records .now))) (countOf (a .records .now)) (l .f) (omega arith) (c .before .lowest-bad .result) (c .before .lowest-bad .ensures) (omega arith))
+    told-behind (a .text .now) (a .records .now) (s .pre .0) (l .k) (c .before .lowest-bad .result) (omega arith)
+    (l .inv .1 ∙ stops (test (drawn (a .text .now) (a .records .now))) (countOf (a .records .now)) (l .k) (omega arith) (c .before .lowest-bad .result) (found (c .before)) (omega arith))
 
 loop-again : tie.Need-loop-again Inv-loop μ-loop
 loop-again c =
     let a = c .before .before .before .before .before .before .before .before .before .before .args in
     let l = c .before .before .before .loop in (
       omega arith,
-      l .inv .1 ∙ goes-on (test (drawn (a .text .now) (a .records .now))) (countOf (a .records .now)) (l .f) (omega arith) (c .before .lowest-bad .result) (c .before .lowest-bad .ensures) (omega arith),
+      l .inv .1 ∙ goes-on (test (drawn (a .text .now) (a .records .now))) (countOf (a .records .now)) (l .k) (omega arith) (c .before .lowest-bad .result) (found (c .before)) (omega arith),
     )
 
 returns-2 : tie.Need-returns-2 Inv-loop μ-loop
@@ -48,12 +56,12 @@ returns-2 c =
     let a = s .args in
     let l = c .before .before .before .before .before .loop in
     told-none (a .text .now) (a .records .now) (s .pre .0) _ _ _ _
-    (l .inv .1 ∙ ends (test (drawn (a .text .now) (a .records .now))) (countOf (a .records .now)) (l .f) (omega arith))
+    (l .inv .1 ∙ ends (test (drawn (a .text .now) (a .records .now))) (countOf (a .records .now)) (l .k) (omega arith))
     (c .before .before .before .count .ensures) (c .before .before .count2 .ensures) (c .before .count3 .ensures) (c .count4 .ensures)
 
 pub check-by-spec : {M : Type 1} → statement M
 check-by-spec =
     tie.close (
-    tie.spec Inv-loop μ-loop loop-holds (λ c κs. search needs) (λ c. search needs) (λ c. search needs) returns (λ c. search needs) (λ c. search needs) loop-again
+    tie.spec Inv-loop μ-loop loop-holds (λ c. search needs) (λ c κs. search needs) returns (λ c. search needs) (λ c. search needs) loop-again
     (λ c κs. search needs) (λ c κs. search needs) (λ c κs. search needs) (λ c κs. search needs) returns-2
     )

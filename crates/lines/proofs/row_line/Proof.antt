@@ -1,32 +1,30 @@
--- `lines::row_line` meets its contract: the part that it lends is the row's bytes, and past the last row these are zeros. Assumes nothing.
+-- `lines::row_line` meets its contract: the row that comes back from its bytes is measured, and written where there is room. Assumes nothing.
 use borrow.Author.Needs.{needs}
-use Rattle.lines.proofs.Telling.{row-past, row-part}
+use Rattle.rail.proofs.Added.{kept, printed}
 use Rattle.lines.proofs.row_line.Statement.{statement}
 use Rattle.lines.proofs.row_line.Tie as tie
 
 returns : tie.Need-returns
 returns c =
-    let a = c .before .before .before .before .before .before .before .before .args in
-    rw (row-past (a .rows .now) (a .k) (c .before .before .before .before .before .if1 .taken)) (c .before .before .line-of .ensures)
+    let b = c .before .before .before .before in
+    rw (← b .before .before .decode-row .ensures) (kept (b .row .ensures) (c .enum-told2 .given .1))
 
 returns-2 : tie.Need-returns-2
 returns-2 c =
-    let a = c .before .before .before .before .before .before .before .before .args in
-    rw (← row-part (a .rows .now) (a .k) (c .before .before .before .before .before .if1 .left)) (c .before .before .line-of2 .ensures)
+    let e = c .before .before .before .before in
+    let b = e .before .before .before .before in
+    rw (← b .before .before .decode-row .ensures) (printed _ (b .row .ensures) (e .enum-told .given .1) (c .before .before .row2 .ensures))
 
 pub row-line-spec : {M : Type 1} → statement M
 row-line-spec =
     tie.close
     (tie.spec
-    (λ c. search needs)
+    (λ c κs. search needs)
     (λ c κs. search needs)
     (λ c. search needs)
+    (λ c. search needs)
+    (λ c. search needs)
     returns
-    (λ c. search needs)
-    (λ c. search needs)
-    (λ c. search needs)
-    (λ c. search needs)
-    (λ c. search needs)
     (λ c κs. search needs)
     (λ c. search needs)
     returns-2)

@@ -54,7 +54,7 @@ add-t29 c =
     omega (arith, enough-for room (g .0 .0 * 2 + g .0 .1 .0 * 3 + g .0 .1 .1 .0 * 6) (g .0 .1 .1 .1 .0) (lack ∙ c .before .before .before .before .before .before .before .before .before .before .if1 .left) .ids-left, c .before .before .before .before .before .before .before .before .before .before .before .before .slots-of .ensures)
 
 returns-2 : tie.Need-returns-2
-returns-2 c = refused-ends _ _ _ _ _ _ _ (sym (c .before .before .before .check .ensures) ∙ c .before .checked .given .1)
+returns-2 c = refused-ends _ _ _ _ _ _ (sym (c .before .before .before .check .ensures) ∙ c .before .checked .given .1)
 
 returns-3 : tie.Need-returns-3
 returns-3 c =

@@ -1,8 +1,7 @@
--- `numbers::answer_all` is safe and ends: each line begins and ends in the text. Nothing has to hold from turn to turn.
--- The measure is what is left of the text. Assumes nothing.
+-- `numbers::answer_all` is safe and ends: each line ends inside the text, and the next one begins behind it. Assumes nothing.
 use Prim.Native.Nat.{_-_}
-use borrow.Author.Needs.{needs}
 use lib.ListN.{length}
+use borrow.Author.Needs.{needs}
 use Rattle.numbers.proofs.answer_all.Statement.{statement}
 use Rattle.numbers.proofs.answer_all.Tie as tie
 
@@ -13,18 +12,4 @@ abbrev μ-loop : tie.MeasureT-loop
 μ-loop text at₀ at = length text - at
 
 pub answer-all-spec : {M : Type 1} → statement M
-answer-all-spec =
-    tie.close
-    (tie.spec
-    Inv-loop
-    μ-loop
-    (λ c. search needs)
-    (λ c κs. search needs)
-    (λ c. search needs)
-    (λ c. search needs)
-    (λ c. search needs)
-    (λ c κs. search needs)
-    (λ c. search needs)
-    (λ c. search needs)
-    (λ c. search needs)
-    (λ c. search needs))
+answer-all-spec = tie.close (tie.spec Inv-loop μ-loop (λ c. search needs) (λ c κs. search needs) (λ c. search needs) (λ c. search needs) (λ c. search needs) (λ c κs. search needs) (λ c. search needs) (λ c. search needs) (λ c. search needs) (λ c. search needs))

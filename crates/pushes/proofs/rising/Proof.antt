@@ -1,5 +1,4 @@
--- `pushes::rising` is safe and ends: it reads inside the slice, and an id below the last has one after it. Nothing has to hold from turn to turn.
--- The measure is what is left of the slice. Assumes nothing.
+-- `pushes::rising` is safe and ends: it reads inside the slice, of which less is left each turn. Assumes nothing.
 use Prim.Native.Nat.{_-_}
 use lib.ListN.{length}
 use borrow.Author.Needs.{needs}
@@ -13,4 +12,4 @@ abbrev μ-loop : tie.MeasureT-loop
 μ-loop ids first id₀ i₀ id i = length ids - i
 
 pub rising-spec : {M : Type 1} → statement M
-rising-spec = tie.close (tie.spec Inv-loop μ-loop (λ c. search needs) (λ c. search needs) (λ c. search needs) (λ c. search needs) (λ c. search needs) (λ c. search needs) (λ c. search needs) (λ c. search needs) (λ c. search needs) (λ c. search needs))
+rising-spec = tie.close (tie.spec Inv-loop μ-loop (λ c. search needs) (λ c. search needs) (λ c. search needs) (λ c κs. search needs) (λ c. search needs) (λ c κs. search needs) (λ c. search needs) (λ c. search needs) (λ c. search needs) (λ c. search needs))

@@ -3,7 +3,7 @@ use native.Mathlib.Omega.{arith}
 use mathlib.Core.Path.{ap}
 use borrow.Author.Needs.{needs}
 use borrow.Author.Tests.{eq-eqb, ne-eqb, le-leb, lt-leb}
-use Rattle.record.specs.Entry.{startOf}
+use Rattle.record.specs.Entry.{viewOf}
 use Rattle.bridge.proofs.pages.label_start.Statement.{statement}
 use Rattle.bridge.proofs.pages.label_start.Tie as tie
 
@@ -14,7 +14,7 @@ returns-2 : tie.Need-returns-2
 returns-2 c = rw (ne-eqb _ _ (c .before .if1 .left), le-leb _ _ (c .if2 .taken))
 
 returns-3 : tie.Need-returns-3
-returns-3 c = rw (ne-eqb _ _ (c .before .before .if1 .left), lt-leb _ _ (c .before .if2 .left)) (ap (λ r. startOf r (c .before .before .before .before .args .q)) (c .decode-record .ensures))
+returns-3 c = rw (ne-eqb _ _ (c .before .before .before .if1 .left), lt-leb _ _ (c .before .before .if2 .left)) (ap (λ r. viewOf r (c .before .before .before .before .before .args .q) .start) (c .before .decode-record .ensures))
 
 pub label-start-spec : {M : Type 1} → statement M
 label-start-spec =

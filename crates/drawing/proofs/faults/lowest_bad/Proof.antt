@@ -9,16 +9,15 @@ use Rattle.refusal.specs.First.{EachBelow}
 use Rattle.record.specs.Decode.{countOf}
 use Rattle.index.specs.Labels.{drawn}
 use Rattle.index.proofs.First.{lowest-here, lowest-nowhere}
-use Rattle.drawing.specs.Faults.{faultAt}
-use Rattle.drawing.specs.Check.{test}
+use Rattle.drawing.specs.Steps.{testNo}
 use Rattle.drawing.proofs.faults.lowest_bad.Statement.{statement}
 use Rattle.drawing.proofs.faults.lowest_bad.Tie as tie
 
 abbrev Inv-loop : tie.InvT-loop
-Inv-loop kinds text records heads nexts guess-heads guess-nexts f n i₀ i = (n ≡ countOf records) × (i ≤ n) × EachBelow i (λ j. test (drawn text records) (faultAt f) j ≡ false)
+Inv-loop kinds text records heads nexts guess-heads guess-nexts number n i₀ i = (n ≡ countOf records) × (i ≤ n) × EachBelow i (λ j. testNo (drawn text records) number j ≡ false)
 
 abbrev μ-loop : tie.MeasureT-loop
-μ-loop kinds text records heads nexts guess-heads guess-nexts f n i₀ i = n - i
+μ-loop kinds text records heads nexts guess-heads guess-nexts number n i₀ i = n - i
 
 loop-holds : tie.Need-loop-holds Inv-loop μ-loop
 loop-holds c = (refl, omega arith, below-none _)
@@ -27,7 +26,7 @@ returns : tie.Need-returns Inv-loop μ-loop
 returns c =
     let a = c .before .before .before .before .before .before .before .before .before .before .args in
     let l = c .before .before .before .loop in
-    lowest-here (countOf (a .records .now)) (test (drawn (a .text .now) (a .records .now)) (faultAt (a .f))) (l .i) (omega arith) (sym (c .before .bad .ensures) ∙ c .if1 .taken) (l .inv .2)
+    lowest-here (countOf (a .records .now)) (testNo (drawn (a .text .now) (a .records .now)) (a .number)) (l .i) (omega arith) (sym (c .before .bad .ensures) ∙ c .if1 .taken) (l .inv .2)
 
 loop-again : tie.Need-loop-again Inv-loop μ-loop
 loop-again c =
@@ -38,7 +37,7 @@ returns-2 : tie.Need-returns-2 Inv-loop μ-loop
 returns-2 c =
     let a = c .before .before .before .before .before .before .before .before .args in
     let l = c .before .loop in
-    lowest-nowhere (countOf (a .records .now)) (test (drawn (a .text .now) (a .records .now)) (faultAt (a .f))) (λ j h. l .inv .2 j (omega arith))
+    lowest-nowhere (countOf (a .records .now)) (testNo (drawn (a .text .now) (a .records .now)) (a .number)) (λ j h. l .inv .2 j (omega arith))
 
 pub lowest-bad-spec : {M : Type 1} → statement M
 lowest-bad-spec = tie.close (tie.spec Inv-loop μ-loop loop-holds (λ c κs. search needs) returns (λ c. omega arith) (λ c. omega arith) loop-again returns-2)

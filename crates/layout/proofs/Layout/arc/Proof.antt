@@ -2,7 +2,7 @@
 use borrow.Author.Needs.{needs}
 use Rattle.layout.specs.declared.ArcRead.the-variants.{Found}
 use Rattle.layout.specs.Look.{arcAt, arcRead}
-use Rattle.layout.proofs.Told.{as-refused, as-found-at}
+use Rattle.layout.proofs.Placed.{as-refused, as-found-at}
 use Rattle.layout.proofs.Laws.{look-inside}
 use Rattle.layout.proofs.Layout.arc.Statement.{statement}
 use Rattle.layout.proofs.Layout.arc.Tie as tie

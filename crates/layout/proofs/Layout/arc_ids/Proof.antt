@@ -3,16 +3,16 @@
 use borrow.Author.Needs.{needs}
 use native.Mathlib.Omega.{arith}
 use lib.ListN.{length}
-use Rattle.layout.specs.declared.Kind.the-variants.{Arc}
+use Rattle.layout.specs.declared.ShapeKind.the-variants.{Arc}
 use Rattle.layout.specs.Look.{arcIds}
-use Rattle.layout.proofs.Told.{is-clear, as-refused, as-found}
+use Rattle.layout.proofs.Placed.{is-passed, as-refused, as-found}
 use Rattle.layout.proofs.Laws.{Found, found}
 use Rattle.layout.proofs.Layout.arc_ids.Statement.{statement}
 use Rattle.layout.proofs.Layout.arc_ids.Tie as tie
 
 -- what is known where the arc is found
 known : (c : tie.After-enum-told) → let a = c .before .before .before .before .args in Found Arc (a .self) (length (a .ids .now)) (a .i)
-known c = found _ _ _ _ (is-clear _ _ _ (c .before .before .look-place .ensures) _ (c .enum-told .given .1))
+known c = found _ _ _ _ (is-passed _ _ _ (c .before .before .look-place .ensures) _ (c .enum-told .given .1))
 
 mul-arc-vars : tie.Need-mul-arc-vars
 mul-arc-vars c = omega (arith, known (c .before))

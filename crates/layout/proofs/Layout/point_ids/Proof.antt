@@ -2,7 +2,7 @@
 use borrow.Author.Needs.{needs}
 use Rattle.layout.specs.declared.PointIds.the-variants.{Found}
 use Rattle.layout.specs.Look.{pointVars, pointIds}
-use Rattle.layout.proofs.Told.{as-refused, as-found-at}
+use Rattle.layout.proofs.Placed.{as-refused, as-found-at}
 use Rattle.layout.proofs.Laws.{look-inside}
 use Rattle.layout.proofs.Layout.point_ids.Statement.{statement}
 use Rattle.layout.proofs.Layout.point_ids.Tie as tie

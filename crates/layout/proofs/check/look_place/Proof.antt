@@ -6,16 +6,16 @@ use Rattle.layout.proofs.check.look_place.Statement.{statement}
 use Rattle.layout.proofs.check.look_place.Tie as tie
 
 returns : tie.Need-returns
-returns c = look-impossible _ _ _ _ (cc)
+returns c = rw (c .refused .ensures) (look-impossible _ _ _ _ (cc))
 
 slots-requires : tie.Need-slots-requires
 slots-requires c κs = small _ (cc)
 
 returns-2 : tie.Need-returns-2
-returns-2 c = look-short _ _ _ _ (cc) (omega arith)
+returns-2 c = rw (c .refused2 .ensures) (look-short _ _ _ _ (cc) (omega arith))
 
 returns-3 : tie.Need-returns-3
-returns-3 c = look-no-shape _ _ _ _ (cc) (omega arith) (omega arith)
+returns-3 c = rw (c .refused3 .ensures) (look-no-shape _ _ _ _ (cc) (omega arith) (omega arith))
 
 slot-requires : tie.Need-slot-requires
 slot-requires c κs =
@@ -27,4 +27,4 @@ returns-4 : tie.Need-returns-4
 returns-4 c = look-at _ _ _ _ (cc) (omega arith) _ (c .slot .ensures) (omega arith)
 
 pub look-place-spec : {M : Type 1} → statement M
-look-place-spec = tie.close (tie.spec (λ c κs. search needs) returns slots-requires returns-2 (λ c κs. search needs) returns-3 slot-requires returns-4)
+look-place-spec = tie.close (tie.spec (λ c κs. search needs) (λ c κs. search needs) returns slots-requires (λ c κs. search needs) returns-2 (λ c κs. search needs) (λ c κs. search needs) returns-3 slot-requires returns-4)

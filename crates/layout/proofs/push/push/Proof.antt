@@ -3,14 +3,14 @@
 use borrow.Author.Needs.{needs}
 use native.Mathlib.Omega.{arith}
 use lib.ListN.{length}
-use Rattle.layout.proofs.Told.{is-clear, the-place}
+use Rattle.layout.proofs.Placed.{is-passed, the-place}
 use Rattle.layout.proofs.Laws.{Fits, fits, push-refused, push-filled}
 use Rattle.layout.proofs.push.push.Statement.{statement}
 use Rattle.layout.proofs.push.push.Tie as tie
 
 -- what is known where the place is found
 known : (c : tie.After-known-told2) → let a = c .before .before .before .before .before .before .before .args in Fits (a .k) (a .l) (a .next) (length (a .ids .now)) (length (a .values .now))
-known c = fits _ _ _ _ _ (is-clear _ _ _ (c .before .before .before .push-place .ensures) _ (c .before .place2 .given .1))
+known c = fits _ _ _ _ _ (is-passed _ _ _ (c .before .before .before .push-place .ensures) _ (c .before .place2 .given .1))
 
 store-requires : tie.Need-store-requires
 store-requires c κs = omega (arith, known (c .before .before), the-place _ _ _ (c .before .before .before .before .before .push-place .ensures) _ (c .before .before .before .place2 .given .1))

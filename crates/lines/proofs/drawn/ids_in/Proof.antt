@@ -1,12 +1,8 @@
 -- `lines::drawn::ids_in` meets its contract: by the test. Assumes nothing.
 use borrow.Author.Needs.{needs}
 use borrow.Author.Tests.{lt-ltb, le-ltb}
-use native.Mathlib.Omega.{arith}
 use Rattle.lines.proofs.drawn.ids_in.Statement.{statement}
 use Rattle.lines.proofs.drawn.ids_in.Tie as tie
-
-cast-count : tie.Need-cast-count
-cast-count c = omega (arith, c .shared-slice-known .given 2)
 
 returns : tie.Need-returns
 returns c = rw (lt-ltb _ _ (c .if1 .taken))
@@ -15,4 +11,4 @@ returns-2 : tie.Need-returns-2
 returns-2 c = rw (le-ltb _ _ (c .if1 .left))
 
 pub ids-in-spec : {M : Type 1} → statement M
-ids-in-spec = tie.close (tie.spec (λ c. search needs) cast-count returns returns-2)
+ids-in-spec = tie.close (tie.spec (λ c. search needs) returns returns-2)

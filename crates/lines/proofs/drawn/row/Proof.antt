@@ -7,8 +7,8 @@ use Rattle.lines.proofs.drawn.row.Tie as tie
 
 returns : tie.Need-returns
 returns c =
-    let a = c .before .before .before .before .before .before .before .before .before .before .before .before .before .before .before .before .before .before .args in
-    said (both (both (added (c .before .before .before .before .before .before .before .before .before .before .before .before .before .add .ensures)) (c .before .before .before .before .before .before .before .before .before .row-opening .ensures)) (c .before .before .from-third .ensures)) (row-is (a .b .now) _ (c .before .before .before .before .bits-of .ensures))
+    let b = c .before .before .before .before .before .before in
+    said (both (both (added (b .before .before .before .before .add .ensures)) (b .row-opening .ensures)) (c .before .before .from-third .ensures)) (row-is _)
 
 pub row-spec : {M : Type 1} → statement M
-row-spec = tie.close (tie.spec (λ c. search needs) (λ c κs. search needs) (λ c κs. search needs) (λ c. search needs) (λ c. search needs) (λ c κs. search needs) (λ c κs. search needs) (λ c. search needs) returns)
+row-spec = tie.close (tie.spec (λ c. search needs) (λ c κs. search needs) (λ c κs. search needs) (λ c κs. search needs) (λ c. search needs) returns)

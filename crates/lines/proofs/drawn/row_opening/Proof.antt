@@ -2,15 +2,15 @@
 -- The measure is the count of ids left. Assumes nothing.
 use mathlib.Core.Path.{_≡_, refl, sym, _∙_}
 use mathlib.Core.List.{List, _++_, append-nil}
-use Prim.Native.Nat.{ℕ, _-_, _≤_}
+use Prim.Native.Nat.{ℕ, _-_, _≤_, _<_}
 use native.Mathlib.Omega.{arith}
-use lib.ListN.{length}
+use lib.ListN.{length, getD}
 use borrow.Author.Needs.{needs}
 use Rattle.print.specs.Print.{decimalOf}
 use Rattle.record.specs.Entry.{upTo}
+use Rattle.row.specs.Row.{idsIn, mostIds}
 use Rattle.rail.specs.declared.Place.{Place}
 use Rattle.rail.specs.Words.{spaced}
-use Rattle.row.specs.Row.{idAt, idsIn}
 use Rattle.rail.specs.Steps.{Adds}
 use Rattle.rail.proofs.Added.{added, both, said}
 use Rattle.lines.proofs.Spaced.{label-more}
@@ -19,36 +19,38 @@ use Rattle.lines.proofs.drawn.row_opening.Statement.{statement}
 use Rattle.lines.proofs.drawn.row_opening.Tie as tie
 
 abbrev Inv-loop : tie.InvT-loop
-Inv-loop b buf₀ write n₀ count q₀ buf n q =
+Inv-loop buf₀ write ids n₀ count q₀ buf n q =
     (q ≤ count) × (length buf ≡ length buf₀)
-    × ((d : List ℕ) (p : Place) (a : List ℕ) → Adds write d p a n₀ buf₀ → Adds write d p (a ++ spaced (upTo q (λ i. decimalOf (idAt b i)))) n buf)
+    × ((d : List ℕ) (p : Place) (a : List ℕ) → Adds write d p a n₀ buf₀ → Adds write d p (a ++ spaced (upTo q (λ i. decimalOf (getD ids i 0)))) n buf)
 
 abbrev μ-loop : tie.MeasureT-loop
-μ-loop b buf₀ write n₀ count q₀ buf n q = count - q
-
-cast-decimal : tie.Need-cast-decimal Inv-loop μ-loop
-cast-decimal c = omega (arith, c .shared-slice-known2 .given 1)
+μ-loop buf₀ write ids n₀ count q₀ buf n q = count - q
 
 loop-holds : tie.Need-loop-holds Inv-loop μ-loop
 unfolding spaced
 loop-holds c = (omega arith, refl, λ d p a x. said x (sym (append-nil a)))
 
-id-word-requires : tie.Need-id-word-requires Inv-loop μ-loop
-id-word-requires c κs =
-    let a = c .before .before .before .before .before .before .before .before .before .before .before in
-    (a .pre, omega (arith, c .before .before .before .ids-in .ensures, ids-most (a .args .b .now)))
+-- the id that is read is one of eight
+few : (c : tie.In-loop Inv-loop μ-loop) → c .before .loop .q < mostIds
+few c = omega (arith, c .loop-test .taken, c .before .before .ids-in .ensures, ids-most (c .before .before .before .before .before .before .before .before .before .before .args .r))
+
+mul-id-word : tie.Need-mul-id-word Inv-loop μ-loop
+mul-id-word c = omega (arith, few c)
+
+array-read-id-word : tie.Need-array-read-id-word Inv-loop μ-loop
+array-read-id-word c = few c
 
 loop-again : tie.Need-loop-again Inv-loop μ-loop
 loop-again c =
-    let a′ = c .before .before .before .before .before .before .before .before .before .before .before .before .before .before .args in
+    let ids = c .before .before .before .before .before .before .before .before .before .before .before .before .before .before .args .r .ids in
     let l = c .before .before .before .before .before .loop in
-    let w = c .before .before .id-word .ensures in
-    (omega arith, w .size ∙ l .inv .1, λ d p a x. said (both (l .inv .2 d p a x) w) (label-more a (λ i. decimalOf (idAt (a′ .b .now) i)) (l .q)))
+    let w = added (c .before .before .id-word .ensures) in
+    (omega arith, w .size ∙ l .inv .1, λ d p a x. said (both (l .inv .2 d p a x) w) (label-more a (λ i. decimalOf (getD ids i 0)) (l .q)))
 
 returns : tie.Need-returns Inv-loop μ-loop
 returns c =
     let l = c .before .loop in
-    let e : l .q ≡ idsIn (c .before .before .before .before .before .before .before .before .before .before .args .b .now) = omega (arith, c .before .before .ids-in .ensures) in
+    let e : l .q ≡ idsIn (c .before .before .before .before .before .before .before .before .before .before .args .r) = omega (arith, c .before .before .ids-in .ensures) in
     said (l .inv .2 _ _ _ (added (c .before .before .before .before .before .decimal .ensures))) (rw e)
 
 pub row-opening-spec : {M : Type 1} → statement M
@@ -58,11 +60,12 @@ row-opening-spec =
     Inv-loop
     μ-loop
     (λ c. search needs)
-    cast-decimal
     (λ c κs. search needs)
     (λ c κs. search needs)
     loop-holds
-    id-word-requires
+    mul-id-word
+    array-read-id-word
+    (λ c κs. search needs)
     (λ c. omega arith)
     (λ c. omega arith)
     loop-again
