@@ -59,6 +59,12 @@ pub fn read_section(
             }),
         };
     }
+    let Stand::At(first) = stand else {
+        return Count {
+            count: start,
+            then: stand,
+        };
+    };
     let kinds = KINDS;
-    section::section(text, stand, guesses, number, own, start, &kinds)
+    section::section(text, first, guesses, number, own, start, &kinds)
 }

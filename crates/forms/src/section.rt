@@ -2,6 +2,7 @@
 ghost use mathlib.Core.Path.{_≡_};
 ghost use Prim.Native.Nat.{_≤_};
 ghost use lib.ListN.{length};
+ghost use Rattle.text.specs.declared.Stand.the-variants.{At};
 ghost use Rattle.record.specs.Record.{longestText};
 ghost use Rattle.record.specs.Kinds.{table};
 ghost use Rattle.forms.specs.Section.{linesOn, store, SectionRead};
@@ -53,7 +54,7 @@ fn stop(first: usize, number: u8, lines: usize, last: usize) -> Stand
 // A line, which is due, and those that follow it, each behind one new line. Where none reads, reading stands at the last line's end.
 pub(crate) fn section(
     text: &[u8],
-    stand: Stand,
+    first: usize,
     guesses: bool,
     number: u8,
     own: &mut [u8],
@@ -61,14 +62,8 @@ pub(crate) fn section(
     kinds: &[[u8; 8]; 26],
 ) -> Count
     requires { ⌜ (now kinds ≡ table) × (length (now text) ≤ longestText) × (start ≤ 4294967295) ⌝ }
-    ensures { λ r. ⌜ SectionRead (now (own .entry)) start (linesOn guesses (now (text .entry)) stand number) r (now (own .exit)) ⌝ }
+    ensures { λ r. ⌜ SectionRead (now (own .entry)) start (linesOn guesses (now (text .entry)) (At first) number) r (now (own .exit)) ⌝ }
 {
-    let Stand::At(first) = stand else {
-        return Count {
-            count: start,
-            then: stand,
-        };
-    };
     let mut at = first;
     let mut last = first;
     let mut n = start;

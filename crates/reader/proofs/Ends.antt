@@ -11,7 +11,7 @@ use Rattle.text.specs.declared.Stand.{Stand}
 use Rattle.text.specs.declared.Stand.the-variants.{At, Nothing, Refused}
 use Rattle.store.specs.Store.{room, written}
 use Rattle.store.proofs.Laws.{written-first}
-use Rattle.record.specs.Record.{recordBytes, mostRecords, longestText, encodeAll}
+use Rattle.record.specs.Record.{recordBytes, mostRecords, recordRoom, longestText, encodeAll}
 use Rattle.record.proofs.Back.{count-all}
 use Rattle.reader.specs.declared.Reading.{Reading}
 use Rattle.reader.specs.declared.Reading.the-variants as reading
@@ -67,7 +67,7 @@ module _ (whole : Bool) (size i g bytes a b e : ℕ) where
 
 -- ---- reading has ended
 
-module _ (whole : Bool) (s d zeros own : List ℕ) (i g : ℕ) (then : Stand) (p : Paged s zeros i g then own) (size : 50400 ≡ length zeros) where
+module _ (whole : Bool) (s d zeros own : List ℕ) (i g : ℕ) (then : Stand) (p : Paged s zeros i g then own) (size : recordRoom ≡ length zeros) where
   -- what is copied of the code's own buffer, by the answer
   abbrev copied : Reading → List ℕ
   copied r = take (recordBytes * toldRecords r) own

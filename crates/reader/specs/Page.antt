@@ -6,6 +6,7 @@ use Prim.Native.Nat.{ℕ, _+_, _*_}
 use lib.Dec.{ltb}
 use lib.ListN.{length, drop}
 use Rattle.ground.specs.Words.{bytes}
+use Rattle.refusal.specs.Refusal.{refusal}
 use Rattle.text.specs.Text.{orStand, due, runTo, wsOn, wordOn, byteOn, newlineOn}
 use Rattle.text.specs.declared.Stand.{Stand}
 use Rattle.text.specs.declared.Stand.the-variants.{At, Nothing, Refused}
@@ -45,7 +46,7 @@ problemOf s =
 
 -- a refusal by its number at a place
 abbrev pub refused : ℕ → ℕ → Reading
-refused number place = reading.Refused (record { number = number; place = place })
+refused number place = reading.Refused (refusal number place)
 
 -- the place of the first byte of 128 or more, or the text's end
 abbrev pub highAt : List ℕ → ℕ

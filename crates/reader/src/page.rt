@@ -2,7 +2,7 @@
 ghost use mathlib.Core.Path.{_≡_};
 ghost use Prim.Native.Nat.{_≤_, _<_};
 ghost use lib.ListN.{length};
-ghost use Rattle.record.specs.Record.{mostRecords, longestText};
+ghost use Rattle.record.specs.Record.{mostRecords, recordRoom, longestText};
 ghost use Rattle.reader.specs.Page.{headingOn, optNewlineOn, highAt, Reads, refused, toldOf, endedOf};
 ghost use Rattle.reader.specs.Steps.{Paged, toldRecords, Ended};
 use crate::Reading;
@@ -161,7 +161,7 @@ fn count_of(told: Reading) -> usize
 
 // Zeros for the most records.
 fn zeros() -> [u8; record::ROOM]
-    ensures { λ r. ⌜ 50400 ≡ length r ⌝ }
+    ensures { λ r. ⌜ recordRoom ≡ length r ⌝ }
 {
     [0; record::ROOM]
 }

@@ -5,6 +5,7 @@ use mathlib.Core.Bool.{Bool, true, false, cond, _||_, _&&_}
 use mathlib.Core.List.{List, [], _∷_}
 use lib.Dec.{leb, eqb}
 use lib.ListN.{length, drop}
+use Rattle.refusal.specs.Refusal.{refusal}
 use Rattle.text.specs.declared.Stand.{Stand}
 use Rattle.text.specs.declared.Stand.the-variants.{At, Nothing, Refused}
 use Rattle.text.specs.declared.Label.{Label}
@@ -19,7 +20,7 @@ from (Refused why) rest read = rest
 
 -- a refusal by its number at a place
 abbrev pub refusedAt : ℕ → ℕ → Stand
-refusedAt number place = Refused (record { number = number; place = place })
+refusedAt number place = Refused (refusal number place)
 
 -- the first of two, or the second where the first reads nothing
 abbrev pub orStand : {X : Type 0} → Stand → X → X → X

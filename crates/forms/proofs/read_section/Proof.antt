@@ -1,9 +1,10 @@
--- `forms::read_section` meets its contract: it goes by whether the text is too long. Assumes nothing.
+-- `forms::read_section` meets its contract: it goes by whether the text is too long, and by whether reading stands at a place. Assumes nothing.
 use borrow.Author.Needs.{needs}
 use borrow.Author.Tests.{lt-ltb, le-ltb}
 use mathlib.Core.Path.{refl}
 use native.Mathlib.Omega.{arith}
 use Rattle.forms.specs.Section.{sectionOn, stored}
+use Rattle.forms.proofs.Turns.{nowhere}
 use Rattle.forms.proofs.read_section.Statement.{statement}
 use Rattle.forms.proofs.read_section.Tie as tie
 
@@ -11,12 +12,18 @@ returns : tie.Need-returns
 unfolding sectionOn stored
 returns c = rw (lt-ltb _ _ (c .if1 .taken)) (record { count-is = omega arith; then-is = refl; buffer = refl })
 
+returns-2 : tie.Need-returns-2
+unfolding sectionOn
+returns-2 c =
+    let a = c .before .before .before .before .args in
+    rw (le-ltb _ _ (c .before .if1 .left)) (nowhere (a .guesses) (a .text .now) (a .own .now) (a .start) (a .stand) (a .number) (c .match .keys2))
+
 section-requires : tie.Need-section-requires
 section-requires c κs = (search needs, search needs, search needs)
 
-returns-2 : tie.Need-returns-2
+returns-3 : tie.Need-returns-3
 unfolding sectionOn
-returns-2 c = rw (le-ltb _ _ (c .before .before .before .before .before .if1 .left)) (c .before .before .section .ensures)
+returns-3 c = rw (le-ltb _ _ (c .before .before .before .before .before .before .before .before .if1 .left), c .before .before .before .before .before .before .stand .given .1) (c .before .before .section .ensures)
 
 pub read-section-spec : {M : Type 1} → statement M
-read-section-spec = tie.close (tie.spec returns section-requires (λ c. search needs) returns-2)
+read-section-spec = tie.close (tie.spec returns (λ c. search needs) returns-2 section-requires (λ c. search needs) returns-3)
