@@ -33,7 +33,8 @@ use Rattle.lowering.specs.Lower.{Room, roomIn, lowerOf, Lowers}
 use Rattle.lowering.specs.Demand.{Enough}
 use Rattle.row.proofs.Back.{length-row}
 use Rattle.lowering.proofs.Bytes.{ids-given, count-rows}
-use Rattle.lowering.proofs.Counts.{says-within, rules-pick}
+use Rattle.index.proofs.Laws.{says-within}
+use Rattle.lowering.proofs.Counts.{rules-pick}
 use Rattle.lowering.proofs.Fine.{Fine, fine}
 use Rattle.lowering.proofs.Lacking.{lower-good, lower-refused}
 use Rattle.ground.proofs.Pieces.{Each, each-map, each-at, length-flat, piece-at, getD-map, map-each, picks-each}

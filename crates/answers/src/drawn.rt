@@ -9,14 +9,16 @@ ghost use Rattle.rail.specs.Rail.{Prints};
 ghost use Rattle.rail.specs.Steps.{Adds};
 ghost use Rattle.answers.specs.Answers.{drawingLines};
 ghost use Rattle.answers.specs.Steps.{Read, slotsBy, loweredBy};
+use layout::VARS_PER_ARC;
 use lowering::Lowered;
 use rail::Place;
+use record::MOST;
 use row::ROW;
 
-// Room for six slots for each of 1,800 records, and for a row of 44 bytes for each.
-const SLOTS: usize = 10_800;
+// Room for the slots of an arc for each of the most records, and for a row for each.
+const SLOTS: usize = MOST * VARS_PER_ARC;
 
-const ROWS: usize = 79_200;
+const ROWS: usize = MOST * ROW;
 
 // Adds what lowering told and a line for each slot.
 fn add_slots(

@@ -14,6 +14,9 @@ use reader::Reading;
 use record::ROOM;
 use record::SIZE;
 
+// Room for any answer: a byte of the page stands in it at most twice, and a record has less than 100 bytes besides.
+pub const LONGEST: usize = 262_144;
+
 // What is asked: the listing by the plain reading or by the whole one, the check, or the slots and rows.
 pub enum Way {
     Plain,

@@ -6,17 +6,12 @@ use lib.Dec.{T}
 use lib.Ieee.{Float, nan, inf, fin, binary64, ofBits, toBits, isNan, nanBits, ne}
 use lib.Ieee.Bits.{nanBits-is, nanBits-above}
 use lib.Ieee.Compare.{differs-from-itself, nan-differs}
+use Rattle.ground.proofs.Floats.{only-nan}
 use Rattle.bits.specs.Bits.{not-a-number, isNanBits}
 
 -- ---- bits
 pub nan-bits : (b : ℕ) → nanBits binary64 b ≡ isNanBits b
 nan-bits = nanBits-above binary64
-
-only-nan : (x : Float) → isNan x ≡ true → x ≡ nan
-unfolding isNan
-only-nan nan e = refl
-only-nan (inf s) e = cc
-only-nan (fin s m k) e = cc
 
 -- whether the f64 of these bits is a NaN
 pub of-nan-bits : (b : ℕ) → isNan (ofBits binary64 b) ≡ isNanBits b

@@ -1,9 +1,8 @@
 -- The powers of ten up to 10^22 are f64s: 10^a is 5^a times 2^a, and 5^22 is below 2^53. Assumes nothing.
 use mathlib.Core.Path.{_≡_, refl}
 use mathlib.Core.Bool.{false}
-use mathlib.Core.Logic.{⊎-elim}
 use Prim.Native.Nat.{ℕ, zero, suc, _+_, _*_, _^_, _≤_, _<_}
-use native.Mathlib.Nat.{mul-assoc, mul-mul-mul-comm, mul-one, mul-pos, pow-suc, pow-le-pow-right, lt-of-le-of-lt, lt-of-lt-of-le, eq-or-lt-of-le}
+use native.Mathlib.Nat.{mul-assoc, mul-mul-mul-comm, mul-one, mul-pos, pow-suc, pow-le-pow-right, lt-of-le-of-lt, lt-of-lt-of-le}
 use native.Mathlib.Omega.{arith}
 use lib.Dec.{lit<}
 use lib.Pow.{pow-add, pow-mono, shl-lt}
@@ -32,14 +31,3 @@ power-exact a h =
     round-exact binary64 false (10 ^ a) 1 (5 ^ a) (a + 1074) (lit< tt) (few a h)
     (lt-of-lt-of-le (shl-lt 53 (a + 1074) (few a h)) (pow-mono (fine a h)))
     (rw (mul-one, pow-add 2 a 1074, five-two a) (mul-assoc (5 ^ a) (2 ^ a) (2 ^ 1074)))
-
--- ---- which power
-
--- a is none of 0 to n - 1, as a match with these arms leaves it
-abbrev pub NoneBelow : ℕ → ℕ → Type 0
-NoneBelow zero a = Unit {0}
-NoneBelow (suc n) a = NoneBelow n a × (a ≡ n → ⊥)
-
-pub none-below : (n a : ℕ) → NoneBelow n a → n ≤ a
-none-below zero a h = omega arith
-none-below (suc n) a h = ⊎-elim (λ (e : n ≡ a). absurd (h .1 (omega arith))) (λ (l : n < a). l) (eq-or-lt-of-le (none-below n a (h .0)))

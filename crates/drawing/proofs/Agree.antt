@@ -12,13 +12,12 @@ use Rattle.record.specs.Entry.{Label, Entry, entryAt, labelNo}
 use Rattle.record.specs.Formed.{places}
 use Rattle.record.proofs.Told.{says-malformed}
 use Rattle.index.specs.Labels.{kindNo, nameNo, labelled}
-use Rattle.index.proofs.Laws.{says-same}
+use Rattle.index.proofs.Laws.{says-same, says-within}
 use Rattle.drawing.specs.Needs.{Shape, point, circle, arc, declaring, Part, parts, Need, needAt}
 use Rattle.drawing.specs.Faults as faults
 use faults.{Named, Meets, Guessed, AnyUnguessed, WrongLabel, NoSuchPart, WithoutGuess, Fault, malformed, declared-twice, wrong-label, no-such-part, guessed-twice, without-guess, order, Holds}
 use Rattle.drawing.specs.Check as check
 use check.{twice, namedAt, named, meets, guessAt, guessed, anyUnguessed, wrongPlace, wrongLabelTest, noSuchPartTest, lacks, withoutGuessTest, test, checkOf}
-use Rattle.drawing.proofs.Laws.{says-within}
 
 -- ---- labels
 

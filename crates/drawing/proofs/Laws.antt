@@ -1,17 +1,17 @@
--- Labels with a suffix behind them, searches for any, tests put together, counts, and what the table of kinds tells. Assumes nothing.
+-- Labels with a suffix behind them, searches for any, counts, and what the table of kinds tells. Assumes nothing.
 use mathlib.Core.Path.{_≡_, refl, sym, ap, _∙_}
-use mathlib.Core.Bool.{Bool, true, false, _||_, cond, true≢false}
+use mathlib.Core.Bool.{Bool, true, false, cond, true≢false}
 use mathlib.Core.List.{List, [], _++_}
 use Prim.Native.Nat.{ℕ, zero, suc, _+_, _-_, _≤_, _<_}
 use native.Mathlib.Numerals.{add-one}
 use native.Mathlib.Omega.{arith}
 use lib.ListN.{length, take, drop, getD, length-append, take-append-drop}
 use lib.Seq.{take-at, drop-at}
-use lib.Dec.{leb, eqb}
+use lib.Dec.{leb}
 use borrow.Author.Tests.{leb-true, lt-ltb}
 use Rattle.ground.proofs.Lists.{all-at}
 use Rattle.refusal.specs.First.{EachBelow, anyBelow}
-use Rattle.refusal.proofs.Says.{Says, refuted, says-once, says-so, says-and, says-iff, says-eq, says-le, says-any}
+use Rattle.refusal.proofs.Says.{refuted, says-so, says-any}
 use Rattle.record.specs.Kinds.{Kind, kinds, kindAt, noKind, rows, columns, labelsColumn, needsColumn, table, cell}
 use Rattle.record.specs.Entry.{Label}
 use Rattle.record.proofs.Cells.{labels-is, needs-is}
@@ -57,21 +57,6 @@ module _ (p : ℕ → Bool) (n : ℕ) where
 -- two tests of the same answers
 pub any-same : (p q : ℕ → Bool) (n : ℕ) → ((j : ℕ) → p j ≡ q j) → anyBelow n p ≡ anyBelow n q
 any-same p q n e = ap (anyBelow n) (λ i j. e j i)
-
--- ---- tests put together
-
-pub or-false : (b : Bool) → (b || false) ≡ b
-or-false true = refl
-or-false false = refl
-
--- a kind from one to another
-pub says-within : (low high k : ℕ) → Says (within low high k) ((low ≤ k) × (k ≤ high))
-says-within low high k = says-and (says-le low k) (says-le k high)
-
--- a kind from one to the same is that one
-pub within-one : (kind k : ℕ) → eqb k kind ≡ within kind kind k
-within-one kind k =
-    says-once (says-eq k kind) (says-iff (λ w. omega (arith, w .0, w .1)) (λ e. (omega (arith, e), omega (arith, e))) (says-within kind kind k))
 
 -- ---- counts
 

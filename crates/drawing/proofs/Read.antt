@@ -1,7 +1,7 @@
 -- Each test of the check by what the code reads: the kind of a record, its label, what is found by the chains, and what the tests of
 -- the parts answer. Assumes nothing.
 use mathlib.Core.Path.{_≡_, refl, sym, ap, _∙_}
-use mathlib.Core.Bool.{Bool, true, false, not, _||_}
+use mathlib.Core.Bool.{Bool, true, false, not, _||_, or-false}
 use mathlib.Core.List.{List, [], _∷_, _++_}
 use Prim.Native.Nat.{ℕ, zero, suc, _≤_, _<_}
 use native.Mathlib.Omega.{arith}
@@ -16,13 +16,13 @@ use Rattle.record.specs.Decode.{countOf, decodeAt}
 use Rattle.record.specs.Entry.{Label, Entry, entryAt, labelNo, entryOf}
 use Rattle.index.specs.Labels.{drawn, kindNo, nameNo, within, labelled}
 use Rattle.index.specs.Chains.{Chained, walkOf}
-use Rattle.index.proofs.Laws.{says-same}
+use Rattle.index.proofs.Laws.{says-same, within-one}
 use Rattle.index.proofs.Drawn.{drawn-length, drawn-kind, drawn-label}
 use Rattle.index.proofs.Found.{found-below}
 use Rattle.drawing.specs.Needs.{Choice, declaring, needOf, codeAt}
 use Rattle.drawing.specs.Check as check
 use check.{twice, namedAt, named, meets, guessAt, guessed, wrongPlace, wrongLabelTest, noSuchPartTest, withoutGuessTest}
-use Rattle.drawing.proofs.Laws.{suffix-cancel, any-same, or-false, within-one}
+use Rattle.drawing.proofs.Laws.{suffix-cancel, any-same}
 
 -- ---- tests put together
 

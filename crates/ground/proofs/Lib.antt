@@ -1,3 +1,4 @@
 pub mod Determined
+pub mod Floats
 pub mod Lists
 pub mod Pieces

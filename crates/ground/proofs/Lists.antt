@@ -1,9 +1,11 @@
--- Laws of lists that more than one crate cites. Assumes nothing.
+-- Laws of lists, tests and matches that more than one crate cites. Assumes nothing.
 use mathlib.Core.Path.{_≡_, refl, sym}
-use mathlib.Core.Bool.{Bool, true, false, _&&_, true≢false}
+use mathlib.Core.Logic.{_⊎_, inl, inr, ⊎-elim}
+use mathlib.Core.Bool.{Bool, true, false, _&&_, cond, true≢false}
 use mathlib.Core.List.{List, [], _∷_}
-use Prim.Native.Nat.{ℕ, zero, suc, _<_}
+use Prim.Native.Nat.{ℕ, zero, suc, _+_, _≤_, _<_}
 use native.Mathlib.Nat.{not-suc-le-zero}
+use native.Mathlib.Decide.{decLt}
 use native.Mathlib.Omega.{arith}
 use lib.ListN.{length, getD}
 
@@ -34,3 +36,24 @@ pub all-at {ℓ} : {A : Type ℓ} (p : A → Bool) (l : List A) (d : A) → all 
 all-at p [] d h e k = e
 all-at p (x ∷ l) d h e zero = and-first (p x) (all p l) h
 all-at p (x ∷ l) d h e (suc k) = all-at p l d (and-second (p x) (all p l) h) e k
+
+-- ---- one of two numbers
+
+pub either-le : (b : Bool) (x y m : ℕ) → x ≤ m → y ≤ m → cond b x y ≤ m
+either-le true x y m h g = h
+either-le false x y m h g = g
+
+-- ---- what a match leaves
+
+-- k is none of the n numbers from m on
+abbrev pub NoneFrom : ℕ → ℕ → ℕ → Type 0
+NoneFrom m zero k = Unit {0}
+NoneFrom m (suc n) k = NoneFrom m n k × (k ≡ m + n → ⊥)
+
+-- so it is below them, or behind them
+pub none-from : (m n k : ℕ) → NoneFrom m n k → (k < m) ⊎ (m + n ≤ k)
+none-from m zero k h = elim (decLt k m) [
+  | yes l ↦ inl l
+  | no f ↦ inr (omega (arith, f))
+]
+none-from m (suc n) k h = ⊎-elim (λ (l : k < m). inl l) (λ (l : m + n ≤ k). inr (omega (arith, l, h .1))) (none-from m n k (h .0))

@@ -12,6 +12,7 @@ use lib.ListN.{length, getD, set}
 use lib.Seq.{getD-set-same, getD-set-other}
 use lib.Dec.{ltb, eqb}
 use borrow.Author.Tests.{le-ltb, eqb-true, eqb-false}
+use Rattle.ground.proofs.Lists.{either-le}
 use Rattle.refusal.specs.First.{SomeBelow, EachBelow, anyBelow, lowest}
 use Rattle.refusal.proofs.Says.{Says, refuted, says-once, says-so, says-iff, says-lt, says-any}
 use Rattle.refusal.proofs.Search.{Searched, at, nowhere, searched, stops-here, goes-through}
@@ -80,14 +81,10 @@ unfolding firstOf
 after p zero i = omega arith
 after p (suc m) i = later (p i) i (firstOf p m (suc i)) (after p m (suc i))
 
-sooner : (t : Bool) (i x y : ℕ) → i ≤ y → x ≤ y → cond t i x ≤ y
-sooner true i x y h k = h
-sooner false i x y h k = k
-
 up-to : (p : ℕ → Bool) (m i : ℕ) → firstOf p m i ≤ i + m
 unfolding firstOf
 up-to p zero i = omega arith
-up-to p (suc m) i = sooner (p i) i (firstOf p m (suc i)) (i + suc m) (omega arith) (omega (arith, up-to p m (suc i)))
+up-to p (suc m) i = either-le (p i) i (firstOf p m (suc i)) (i + suc m) (omega arith) (omega (arith, up-to p m (suc i)))
 
 passes : (p : ℕ → Bool) (t : Bool) (m i x : ℕ) → p i ≡ t → (x < suc i + m → p x ≡ true) → cond t i x < i + suc m → p (cond t i x) ≡ true
 passes p true m i x e f h = e

@@ -7,10 +7,11 @@ use native.Mathlib.Numerals.{add-one}
 use native.Mathlib.Omega.{arith}
 use lib.ListN.{length, take, drop, getD, drop-of-length-le, length-drop, length-append, take-append-drop}
 use lib.Seq.{drop-cons, take-all, take-nil, take-at, drop-at}
+use lib.Dec.{eqb}
 use borrow.Author.Tests.{eq-eqb, ne-eqb}
-use Rattle.refusal.proofs.Says.{Says, refuted, says-once, says-and, says-iff, says-eq}
+use Rattle.refusal.proofs.Says.{Says, refuted, says-once, says-and, says-iff, says-eq, says-le}
 use Rattle.record.specs.Entry.{Label, part}
-use Rattle.index.specs.Labels.{same}
+use Rattle.index.specs.Labels.{same, within}
 use Rattle.index.specs.Chains.{chains, hashFrom}
 
 -- ---- labels
@@ -84,3 +85,12 @@ pub hash-small : (h : ℕ) (l : Label) → h < chains → hashFrom h l < chains
 unfolding hashFrom
 hash-small h [] lt = lt
 hash-small h (x ∷ l) lt = hash-small ((h * 37 + x) % chains) l (omega arith)
+
+-- ---- a kind from one to another
+
+pub says-within : (low high k : ℕ) → Says (within low high k) ((low ≤ k) × (k ≤ high))
+says-within low high k = says-and (says-le low k) (says-le k high)
+
+-- from one to the same it is that one
+pub within-one : (d k : ℕ) → within d d k ≡ eqb k d
+within-one d k = says-once (says-iff (λ w. omega (arith, w .0, w .1)) (λ e. (omega (arith, e), omega (arith, e))) (says-within d d k)) (says-eq k d)

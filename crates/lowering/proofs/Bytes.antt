@@ -18,7 +18,8 @@ use Rattle.row.specs.Row.{Row, rowBytes, encodeRow, encodeRows, rowNo}
 use Rattle.lowering.specs.Rows.{namingOf, names, namedIds, rowFor, rulesOf, rowsOf}
 use Rattle.lowering.specs.Demand.{RowOf, rulesBefore}
 use Rattle.ground.proofs.Pieces.{Each, each-map, each-at, each-of, each-flat, flat-append, length-flat, piece-at, getD-map, picks-suc, picks-around}
-use Rattle.lowering.proofs.Counts.{says-within, rules-pick, rules-before, picks-inside}
+use Rattle.index.proofs.Laws.{says-within}
+use Rattle.lowering.proofs.Counts.{rules-pick, rules-before, picks-inside}
 use Rattle.lowering.proofs.Ids.{ids-within}
 use Rattle.lowering.proofs.Fine.{Fine}
 use Rattle.lowering.proofs.Rows.{ids-few, carries}

@@ -5,10 +5,9 @@ use mathlib.Core.List.{List, [], _∷_, _++_}
 use Prim.Native.Nat.{ℕ, zero, suc, _+_, _*_, _≤_, _<_}
 use native.Mathlib.Nat.{le-refl}
 use native.Mathlib.Omega.{arith}
-use lib.Dec.{eqb}
 use lib.ListN.{length, take, drop, length-append}
 use lib.Seq.{take-length}
-use Rattle.refusal.proofs.Says.{Says, says-and, says-eq, says-le, says-iff, says-once}
+use Rattle.refusal.proofs.Says.{says-eq}
 use Rattle.layout.specs.Slots as layout
 use Rattle.layout.proofs.Laws.{can-be}
 use Rattle.layout.specs.Refusals.{impossible}
@@ -20,16 +19,10 @@ use Rattle.drawing.specs.Check.{countBelow}
 use Rattle.lowering.specs.Slots.{slotsOfShape, labelsOf, slotsOf, slots, size, before, howMany, layoutOf}
 use Rattle.lowering.specs.Rows.{rulesOf}
 use Rattle.lowering.specs.Demand.{Declares, rulesBefore}
+use Rattle.index.proofs.Laws.{within-one}
 use Rattle.ground.proofs.Pieces.{each-of, length-flat, Picks, picks-suc, picks-around}
 
 -- ---- what is picked
-
-pub says-within : (low high k : ℕ) → Says (within low high k) ((low ≤ k) × (k ≤ high))
-says-within low high k = says-and (says-le low k) (says-le k high)
-
--- a kind from d to d is d
-pub within-one : (d k : ℕ) → within d d k ≡ eqb k d
-within-one d k = says-once (says-iff (λ w. omega (arith, w .0, w .1)) (λ e. (omega (arith, e), omega (arith, e))) (says-within d d k)) (says-eq k d)
 
 pub labels-pick : (s : Shape) → Picks (λ (e : Entry). within (declaring s) (declaring s) (e .kind)) (λ e. labelNo e 0) (labelsOf s)
 labels-pick s = record {

@@ -33,7 +33,7 @@ use Rattle.lowering.specs.Rows.{Naming, namingOf}
 use Rattle.lowering.specs.Lower.{onto}
 use Rattle.lowering.specs.Steps.{namingBy, spanOf, sixOf, numberNo, spanIds, labelIds, rowIds, rowAt, rowIf, rowsBelow, RowTables, Addable, Added, Sayable, Begins, Writing, Wrote, Writable}
 use Rattle.ground.proofs.Pieces.{flat-suc, flat-append}
-use Rattle.lowering.proofs.Counts.{says-within}
+use Rattle.index.proofs.Laws.{says-within}
 use Rattle.row.proofs.Back.{length-row}
 use Rattle.lowering.proofs.Naming.{naming-is}
 use Rattle.lowering.proofs.Spanning.{span-inside, label-length}

@@ -9,13 +9,12 @@ use Rattle.refusal.proofs.Says.{Says, says-so, says-and, refuted}
 use Rattle.record.specs.Kinds.{pairGuess, numberGuess, Declaration, Guess}
 use Rattle.record.specs.Entry.{Label, Entry, entryAt}
 use Rattle.index.specs.Labels.{kindNo, nameNo, labelled, lowestOr}
-use Rattle.index.proofs.Laws.{says-same}
+use Rattle.index.proofs.Laws.{says-same, says-within}
 use Rattle.index.proofs.First.{lowest-here}
 use Rattle.drawing.specs.Needs.{Shape, point, circle, arc, declaring, Part, parts}
 use Rattle.lowering.specs.Slots.{guessOf}
 use Rattle.lowering.specs.Demand.{Declares}
 use Rattle.ground.proofs.Pieces.{Each, each-has}
-use Rattle.lowering.proofs.Counts.{says-within}
 use Rattle.lowering.proofs.Fine.{Fine, same-record}
 
 -- ---- a search that one place alone passes

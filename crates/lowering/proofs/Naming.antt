@@ -11,6 +11,7 @@ use lib.ListN.{length, getD, set, take, drop, length-set, length-drop, List·get
 use lib.Seq.{paste, paste-zero, paste-suc, getD-take, getD-drop, length-take-le, take-length}
 use lib.Dec.{ltb, eqb}
 use borrow.Author.Tests.{lt-ltb, le-ltb, ltb-false, eqb-true}
+use Rattle.ground.proofs.Lists.{either-le}
 use Rattle.refusal.specs.First.{allBelow}
 use Rattle.refusal.proofs.Says.{says-so, says-all}
 use Rattle.layout.specs.Push.{over}
@@ -99,13 +100,9 @@ module _ (text records chains : List ℕ) (c : Chained (drawn text records) newP
   pub span-point : (third axis : ℕ) → axis ≡ axisAt third → record { shape = shape; first = axis; count = 1 } ≡ pointSpan (drawn text records) third l
   span-point third axis ea = rw (ea, shape-is) refl
 
-one-of : (t : Bool) (n : ℕ) → cond t n 0 ≤ n
-one-of true n = omega arith
-one-of false n = omega arith
-
 -- where a center's x or y stands is a small number
 pub center-small : (kind third : ℕ) → centerBy kind + axisAt third ≤ 5
-center-small kind third = omega (arith, one-of (eqb kind 3) 4, one-of (eqb third y-axis) 1)
+center-small kind third = omega (arith, either-le (eqb kind 3) 4 0 4 (omega arith) (omega arith), either-le (eqb third y-axis) 1 0 1 (omega arith) (omega arith))
 
 -- a center, or a point
 module _ (text records : List ℕ) (third : ℕ) (l : Label) (s : Span) (t : Bool) (ends : t ≡ endsIn l (bytes ".center")) where

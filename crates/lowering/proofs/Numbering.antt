@@ -9,7 +9,8 @@ use Rattle.refusal.specs.First.{EachBelow}
 use Rattle.refusal.proofs.Says.{refuted}
 use Rattle.index.proofs.First.{put}
 use Rattle.drawing.specs.Check.{countBelow}
-use Rattle.lowering.proofs.Counts.{says-within, count-le}
+use Rattle.index.proofs.Laws.{says-within}
+use Rattle.lowering.proofs.Counts.{count-le}
 
 -- how many of the first i kinds are k
 abbrev pub countFor : (ℕ → ℕ) → ℕ → ℕ → ℕ

@@ -27,7 +27,8 @@ use Rattle.lowering.specs.Slots.{slotsOfShape, labelsOf, slots, howMany,
 use Rattle.lowering.specs.Lower.{onto}
 use Rattle.lowering.specs.Steps.{pairFor, circleFor, arcFor, shapeFor, shapeOf, pushedAt, pushedBelow, stage, laid, Passing}
 use Rattle.ground.proofs.Pieces.{picks-suc}
-use Rattle.lowering.proofs.Counts.{within-one, labels-pick, labels-all, count-le, length-slots}
+use Rattle.index.proofs.Laws.{within-one}
+use Rattle.lowering.proofs.Counts.{labels-pick, labels-all, count-le, length-slots}
 use Rattle.lowering.proofs.Values.{length-values, values-parts}
 
 -- ---- runs

@@ -7,6 +7,7 @@ use native.Mathlib.Omega.{arith}
 use lib.Dec.{eqb}
 use lib.ListN.{length, drop, length-drop}
 use lib.Seq.{length-take-le}
+use Rattle.ground.proofs.Lists.{either-le}
 use Rattle.ground.specs.Words.{bytes}
 use Rattle.layout.specs.declared.Layout.{Layout}
 use Rattle.layout.specs.declared.PointIds.{PointIds}
@@ -31,10 +32,6 @@ by-kind P kind m n x y z a b c = go (eqb kind m) (eqb kind n)
     go true t = a
     go false true = b
     go false false = c
-
-either-le : (b : Bool) (x y m : ℕ) → x ≤ m → y ≤ m → cond b x y ≤ m
-either-le true x y m h g = h
-either-le false x y m h g = g
 
 -- ---- spans
 

@@ -29,7 +29,7 @@ use Rattle.record.specs.Record.{mostRecords}
 use Rattle.record.specs.Kinds.{kindAt, Rule, newPoint, newArc, firstRule, lastRule, fixComponent, fixCenter}
 use Rattle.record.specs.Entry.{Label, Entry, entryAt, labelNo}
 use Rattle.index.specs.Labels.{kindNo, nameNo, same, within}
-use Rattle.index.proofs.Laws.{says-same}
+use Rattle.index.proofs.Laws.{says-same, says-within}
 use Rattle.drawing.specs.Needs.{Shape, point, circle, arc, declaring, needAt}
 use Rattle.drawing.specs.Faults.{Meets}
 use Rattle.ground.specs.Lists.{flat}
@@ -41,7 +41,7 @@ use Rattle.lowering.specs.Offsets.{componentAt}
 use Rattle.lowering.specs.Demand.{Declares}
 use Rattle.lowering.specs.Steps.{shapeNo, sizeBy, centerBy, axisAt, endsIn, centerSpan, spanOf, sixOf, spanIds, labelIds, rowIds, rowAt, rowIf, rowsBelow, Sayable, Writable, Passing}
 use Rattle.ground.proofs.Pieces.{Each, each-of}
-use Rattle.lowering.proofs.Counts.{says-within, before-inside, length-slots, possible}
+use Rattle.lowering.proofs.Counts.{before-inside, length-slots, possible}
 use Rattle.lowering.proofs.Fine.{Fine, fine, declaration, NoDot, plain-no-dot, plain-name}
 use Rattle.lowering.proofs.Places.{slot-of}
 use Rattle.lowering.proofs.Found.{declared-found}

@@ -9,7 +9,7 @@ use native.Mathlib.Omega.{arith}
 use lib.Dec.{leb, leb→le}
 use lib.ListN.{length, getD}
 use lib.Ieee.Fits.{and-l, and-r}
-use Rattle.text.specs.Text.{run, runTo}
+use Rattle.text.specs.Text.{runTo}
 use Rattle.text.proofs.Laws.{run-more, runTo-more}
 use Rattle.number.specs.Number.{isDigit, digitsAt, digitsTo, numeral, capped, Run}
 

@@ -1,6 +1,6 @@
 -- The entries of a list, place by place, and the test of each place by the kind of a good record. Assumes nothing.
 use mathlib.Core.Path.{_≡_, refl, sym, ap, _∙_}
-use mathlib.Core.Bool.{Bool, true, false, not, _&&_, _||_, cond}
+use mathlib.Core.Bool.{Bool, true, false, not, _&&_, cond, or-false}
 use mathlib.Core.List.{List, [], _∷_, _++_, append-nil}
 use Prim.Native.Nat.{ℕ, suc, _+_, _%_, _≤_, _<_}
 use native.Mathlib.Nat.{not-suc-le-zero}
@@ -75,10 +75,6 @@ module _ (es : List Entry) where
   unfolding malformedTest
   inside-is i h =
       rw (lt-ltb i (length es) h, ne-eqb i (length es) (λ e. omega (arith, e, h))) (or-false (faultTest (entryAt es i) (eqb i 0) (anyGuess es i)))
-    where
-      or-false : (b : Bool) → b || false ≡ b
-      or-false true = refl
-      or-false false = refl
 
   pub last-is : malformedTest es (length es) ≡ not (anyGuess es (length es))
   unfolding malformedTest

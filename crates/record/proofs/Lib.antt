@@ -7,7 +7,6 @@ pub mod Passed
 pub mod Asked
 pub mod Told
 pub mod WellFormed
-pub mod Rows
 pub mod Cells
 pub mod Written
 pub mod Lent

@@ -13,9 +13,6 @@ const LONGEST: usize = 64;
 
 const BLOCKS: u64 = 0xffff_ffff_ffff_ffff;
 
-// Room for any answer: a byte of the page stands in it at most twice, and a record has less than 100 bytes besides.
-const ROOM: usize = 262_144;
-
 // What was read of a header line.
 enum Got {
     Line(usize),
@@ -137,7 +134,7 @@ fn main() {
     let text: &mut [u8] = &mut space;
     let mut head = [0u8; LONGEST];
     let line: &mut [u8] = &mut head;
-    let mut answered = [0u8; ROOM];
+    let mut answered = [0u8; answers::LONGEST];
     let out: &mut [u8] = &mut answered;
     let mut left = BLOCKS;
     while 0 < left {

@@ -9,11 +9,9 @@ use libc::STDOUT_FILENO;
 use lowering::Lowered;
 use rail::Place;
 use reader::Reading;
+use record::ROOM;
 use record::SIZE;
 ghost use Prim.Native.Nat.{_≤_};
-
-// Room for the records of a page: 1,800 of 28 bytes.
-const ROOM: usize = 50_400;
 
 // The most slots and the most bytes of rows that are lent here.
 const SLOTS: usize = 32;

@@ -6,9 +6,10 @@ use Prim.Native.Nat.{ℕ, zero, suc, _+_, _-_, _*_, _/_, _%_, _^_, _<_}
 use native.Mathlib.Nat.{mul-one}
 use native.Mathlib.Omega.{arith}
 use borrow.Author.Tests.{le-leb, lt-leb, lt-ltb, ne-eqb}
-use lib.Ieee.{Float, nan, inf, fin, binary64, isNan, ofBits, ofFields}
+use lib.Ieee.{nan, inf, binary64, ofBits, ofFields}
 use lib.Ieee.Bits.{nanBits-is, nanBits-above}
 use lib.Ieee.Exact.{HasValue, odd-sign}
+use Rattle.ground.proofs.Floats.{only-nan}
 use Rattle.root.specs.Bits.{minus-zero, infinity, minus-infinity, IsNan, size, sizeOf}
 use Rattle.root.specs.Root.{RootOf}
 
@@ -48,11 +49,5 @@ unfolding ofBits ofFields
 minus-infinite = refl
 
 -- a NaN
-only-nan : (x : Float) → isNan x ≡ true → x ≡ nan
-unfolding isNan
-only-nan nan e = refl
-only-nan (inf s) e = cc
-only-nan (fin s m k) e = cc
-
 pub no-value : (b : ℕ) → IsNan b → ofBits binary64 b ≡ nan
 no-value b h = only-nan (ofBits binary64 b) (sym (nanBits-is binary64 b) ∙ nanBits-above binary64 b ∙ lt-ltb infinity (b % 2 ^ 63) h)

@@ -24,5 +24,4 @@ returns-2 c =
 
 pub decimal-spec : {M : Type 1} → statement M
 decimal-spec =
-    tie.close
-    (tie.spec (λ c κs. search needs) (λ c κs. sym (c .before .within .ensures) ∙ c .if1 .taken) float-to-bits-t7 returns returns-2)
+    tie.close (tie.spec (λ c κs. search needs) (λ c κs. sym (c .before .within .ensures) ∙ c .if1 .taken) float-to-bits-t7 returns returns-2)

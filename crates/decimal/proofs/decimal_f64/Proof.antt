@@ -51,13 +51,4 @@ returns-2 c =
     made (s .args .m) (s .args .scale) (s .args .negative) (c .before .match .v) (s .pre) (rw (c .if1 .left) (plain (c .before)))
 
 pub decimal-f64-spec : {M : Type 1} → statement M
-decimal-f64-spec =
-    tie.close
-    (tie.spec
-    int-to-float-x
-    (λ c. search needs)
-    ten-to-requires
-    (λ c. search needs)
-    ten-to-requires-2
-    returns
-    returns-2)
+decimal-f64-spec = tie.close (tie.spec int-to-float-x (λ c. search needs) ten-to-requires (λ c. search needs) ten-to-requires-2 returns returns-2)

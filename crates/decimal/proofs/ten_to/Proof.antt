@@ -1,8 +1,10 @@
 -- `decimal::ten_to` meets its contract: each arm is its power of ten, which antt computes, and what is no other's is the last. Assumes nothing.
 use mathlib.Core.Path.{_≡_}
+use mathlib.Core.Logic.{⊎-elim}
+use Prim.Native.Nat.{_≤_, _<_}
 use native.Mathlib.Omega.{arith}
 use lib.Ieee.{ofBits, ofInt, round}
-use Rattle.decimal.proofs.Powers.{none-below}
+use Rattle.ground.proofs.Lists.{none-from}
 use Rattle.decimal.proofs.ten_to.Statement.{statement}
 use Rattle.decimal.proofs.ten_to.Tie as tie
 
@@ -98,7 +100,7 @@ returns-23 : tie.Need-returns-23
 unfolding ofBits ofInt round
 returns-23 c =
     let a = c .before .args .a in
-    let e : a ≡ 22 = omega (arith, none-below 22 a (c .match .rest), c .before .pre) in
+    let e : a ≡ 22 = omega (arith, ⊎-elim (λ (l : a < 0). absurd (omega (arith, l))) (λ (l : 22 ≤ a). l) (none-from 0 22 a (c .match .rest)), c .before .pre) in
     rw e
 
 pub ten-to-spec : {M : Type 1} → statement M

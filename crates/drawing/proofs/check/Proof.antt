@@ -27,7 +27,5 @@ check-by-requires c κs =
 
 pub check-spec : {M : Type 1} → statement M
 check-spec =
-    tie.close (
-    tie.spec (λ c κs. search needs) (λ c. c .match .keys1) returns (λ c. c .match .keys2) (λ c. search needs) (λ c κs. search needs) (λ c. search needs)
-    (λ c κs. search needs) (λ c. search needs) (λ c. search needs) check-by-requires (λ c. search needs)
-    )
+    tie.close (tie.spec (λ c κs. search needs) (λ c. c .match .keys1) returns (λ c. c .match .keys2) (λ c. search needs) (λ c κs. search needs)
+    (λ c. search needs) (λ c κs. search needs) (λ c. search needs) (λ c. search needs) check-by-requires (λ c. search needs))

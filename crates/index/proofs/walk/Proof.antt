@@ -80,7 +80,5 @@ next-inside c =
 
 pub walk-spec : {M : Type 1} → statement M
 walk-spec =
-    tie.close (
-    tie.spec Inv-loop μ-loop loop-holds (λ c κs. search needs) returns add-wide mul-wide next-inside (λ c κs. search needs) returns-2 (λ c. search needs) loop-again
-    returns-3
-    )
+    tie.close (tie.spec Inv-loop μ-loop loop-holds (λ c κs. search needs) returns add-wide mul-wide next-inside (λ c κs. search needs) returns-2
+    (λ c. search needs) loop-again returns-3)

@@ -15,5 +15,4 @@ unfolding closed
 returns-2 c = rw (← c .before .before .before .byte .ensures, c .before .enum-told .given .1, c .root-bits .ensures .function)
 
 pub close-root-spec : {M : Type 1} → statement M
-close-root-spec =
-    tie.close (tie.spec (λ c κs. search needs) (λ c. search needs) (λ c κs. search needs) returns (λ c κs. search needs) returns-2)
+close-root-spec = tie.close (tie.spec (λ c κs. search needs) (λ c. search needs) (λ c κs. search needs) returns (λ c κs. search needs) returns-2)

@@ -45,7 +45,5 @@ returns-2 c =
 
 pub digits-at-spec : {M : Type 1} → statement M
 digits-at-spec =
-    tie.close (
-    tie.spec Inv-loop μ-loop loop-holds (λ c. search needs) (λ c κs. search needs) push-requires (λ c. search needs) (λ c. search needs)
-    loop-again returns returns-2
-    )
+    tie.close (tie.spec Inv-loop μ-loop loop-holds (λ c. search needs) (λ c κs. search needs) push-requires (λ c. search needs) (λ c. search needs)
+    loop-again returns returns-2)

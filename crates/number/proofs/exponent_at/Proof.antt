@@ -37,7 +37,5 @@ returns-3 c =
 
 pub exponent-at-spec : {M : Type 1} → statement M
 exponent-at-spec =
-    tie.close (
-    tie.spec (λ c κs. search needs) (λ c κs. search needs) add-sign (λ c κs. search needs) (λ c κs. search needs) returns (λ c κs. search needs)
-    returns-2 returns-3
-    )
+    tie.close (tie.spec (λ c κs. search needs) (λ c κs. search needs) add-sign (λ c κs. search needs) (λ c κs. search needs) returns
+    (λ c κs. search needs) returns-2 returns-3)

@@ -51,7 +51,5 @@ returns-3 c =
 
 pub number-at-spec : {M : Type 1} → statement M
 number-at-spec =
-    tie.close (
-    tie.spec (λ c κs. search needs) (λ c κs. search needs) (λ c κs. search needs) (λ c κs. search needs) returns (λ c κs. search needs)
-    (λ c κs. search needs) returns-2 (λ c κs. search needs) (λ c κs. search needs) scale-by-requires returns-3
-    )
+    tie.close (tie.spec (λ c κs. search needs) (λ c κs. search needs) (λ c κs. search needs) (λ c κs. search needs) returns (λ c κs. search needs)
+    (λ c κs. search needs) returns-2 (λ c κs. search needs) (λ c κs. search needs) scale-by-requires returns-3)

@@ -16,7 +16,5 @@ sub-n c = digit-least (c .before .before .args .digit) (c .before .before .pre .
 
 pub push-spec : {M : Type 1} → statement M
 push-spec =
-    tie.close (
-    tie.spec (λ c. search needs) sub-result (λ c. search needs) (λ c. search needs) returns (λ c. search needs) (λ c. search needs) sub-n (λ c. search needs)
-    (λ c. search needs) (λ c. search needs) (λ c. search needs)
-    )
+    tie.close (tie.spec (λ c. search needs) sub-result (λ c. search needs) (λ c. search needs) returns (λ c. search needs) (λ c. search needs) sub-n
+    (λ c. search needs) (λ c. search needs) (λ c. search needs) (λ c. search needs))

@@ -11,6 +11,4 @@ returns-2 c = rw (c .before .enum-told .given .1) (c .no-number .ensures)
 
 pub scale-by-spec : {M : Type 1} → statement M
 scale-by-spec =
-    tie.close (
-    tie.spec (λ c. search needs) (λ c κs. search needs) (λ c κs. search needs) (λ c. search needs) (λ c κs. search needs) returns returns-2
-    )
+    tie.close (tie.spec (λ c. search needs) (λ c κs. search needs) (λ c κs. search needs) (λ c. search needs) (λ c κs. search needs) returns returns-2)

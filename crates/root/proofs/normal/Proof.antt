@@ -45,5 +45,4 @@ returns : tie.Need-returns Inv-loop μ-loop
 returns c = (omega arith, record { least = omega arith; most = omega arith; value = c .before .loop .inv .3 })
 
 pub normal-spec : {M : Type 1} → statement M
-normal-spec =
-    tie.close (tie.spec Inv-loop μ-loop loop-holds mul-m sub-g loop-less loop-again returns)
+normal-spec = tie.close (tie.spec Inv-loop μ-loop loop-holds mul-m sub-g loop-less loop-again returns)

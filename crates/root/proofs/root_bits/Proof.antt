@@ -35,14 +35,5 @@ returns-4 c =
 
 pub root-bits-spec : {M : Type 1} → statement M
 root-bits-spec =
-    tie.close
-    (tie.spec
-    returns
-    returns-2
-    normal-requires
-    (λ c κs. search needs)
-    returns-3
-    (λ c. search needs)
-    (λ c. search needs)
-    (λ c κs. search needs)
-    returns-4)
+    tie.close (tie.spec returns returns-2 normal-requires (λ c κs. search needs) returns-3 (λ c. search needs) (λ c. search needs)
+    (λ c κs. search needs) returns-4)

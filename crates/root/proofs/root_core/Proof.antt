@@ -76,22 +76,5 @@ returns-2 c =
 
 pub root-core-spec : {M : Type 1} → statement M
 root-core-spec =
-    tie.close
-    (tie.spec
-    Inv-loop
-    μ-loop
-    loop-holds
-    mul-next
-    add-next
-    mul-a
-    mul-trial
-    add-trial
-    mul-q
-    add-q
-    mul-q-2
-    add-i
-    loop-less
-    loop-again
-    add-result
-    returns
-    returns-2)
+    tie.close (tie.spec Inv-loop μ-loop loop-holds mul-next add-next mul-a mul-trial add-trial mul-q add-q mul-q-2 add-i loop-less loop-again
+    add-result returns returns-2)

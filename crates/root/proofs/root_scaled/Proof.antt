@@ -35,5 +35,4 @@ returns c = rw (rooted c)
 
 pub root-scaled-spec : {M : Type 1} → statement M
 root-scaled-spec =
-    tie.close
-    (tie.spec (λ c. search needs) mul-root-core root-core-requires (λ c. search needs) (λ c. search needs) sub-result add-result-2 returns)
+    tie.close (tie.spec (λ c. search needs) mul-root-core root-core-requires (λ c. search needs) (λ c. search needs) sub-result add-result-2 returns)

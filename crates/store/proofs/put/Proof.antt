@@ -39,7 +39,5 @@ returns-3 c =
 
 pub put-spec : {M : Type 1} → statement M
 put-spec =
-    tie.close (
-    tie.spec Inv-loop μ-loop returns (λ c. search needs) returns-2 loop-holds (λ c. omega arith) (λ c. omega arith) (λ c. omega arith)
-    (λ c. omega arith) (λ c. omega arith) loop-again (λ c. omega arith) returns-3
-    )
+    tie.close (tie.spec Inv-loop μ-loop returns (λ c. search needs) returns-2 loop-holds (λ c. omega arith) (λ c. omega arith) (λ c. omega arith)
+    (λ c. omega arith) (λ c. omega arith) loop-again (λ c. omega arith) returns-3)

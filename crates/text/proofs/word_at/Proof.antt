@@ -45,7 +45,5 @@ returns-3 c =
 
 pub word-at-spec : {M : Type 1} → statement M
 word-at-spec =
-    tie.close (
-    tie.spec Inv-loop μ-loop loop-holds returns (λ c. search needs) (λ c. search needs) returns-2 (λ c. search needs) (λ c. search needs)
-    (λ c. search needs) loop-again returns-3
-    )
+    tie.close (tie.spec Inv-loop μ-loop loop-holds returns (λ c. search needs) (λ c. search needs) returns-2 (λ c. search needs) (λ c. search needs)
+    (λ c. search needs) loop-again returns-3)

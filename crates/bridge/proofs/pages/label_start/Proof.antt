@@ -17,5 +17,4 @@ returns-3 : tie.Need-returns-3
 returns-3 c = rw (ne-eqb _ _ (c .before .before .before .if1 .left), lt-leb _ _ (c .before .before .if2 .left)) (ap (λ r. viewOf r (c .before .before .before .before .before .args .q) .start) (c .before .decode-record .ensures))
 
 pub label-start-spec : {M : Type 1} → statement M
-label-start-spec =
-    tie.close (tie.spec returns returns-2 (λ c κs. search needs) (λ c. omega arith) (λ c. omega arith) returns-3)
+label-start-spec = tie.close (tie.spec returns returns-2 (λ c κs. search needs) (λ c. omega arith) (λ c. omega arith) returns-3)

@@ -59,6 +59,5 @@ returns-2 c =
 
 pub any-wrong-spec : {M : Type 1} → statement M
 any-wrong-spec =
-    tie.close (
-    tie.spec Inv-loop μ-loop (λ c κs. search needs) (λ c. search needs) loop-holds (λ c κs. search needs) code-at-requires (λ c κs. search needs) returns (λ c. search needs) (λ c. search needs) loop-again returns-2
-    )
+    tie.close (tie.spec Inv-loop μ-loop (λ c κs. search needs) (λ c. search needs) loop-holds (λ c κs. search needs) code-at-requires
+    (λ c κs. search needs) returns (λ c. search needs) (λ c. search needs) loop-again returns-2)

@@ -2,7 +2,7 @@
 use borrow.Author.Needs.{needs}
 use mathlib.Core.Path.{_∙_}
 use native.Mathlib.Omega.{arith}
-use Rattle.drawing.proofs.Laws.{says-within}
+use Rattle.index.proofs.Laws.{says-within}
 use Rattle.drawing.proofs.Read.{wrong-place-is, no-such-part-yes, no-such-part-no}
 use Rattle.record.specs.Kinds.{pairGuess, numberGuess}
 use Rattle.drawing.proofs.faults.no_such_part.Statement.{statement}
@@ -27,5 +27,4 @@ returns-2 c =
     no-such-part-no (a .text .now) (a .records .now) (a .i) _ (c .before .kind-at .ensures) (c .if1 .left)
 
 pub no-such-part-spec : {M : Type 1} → statement M
-no-such-part-spec =
-    tie.close (tie.spec (λ c κs. search needs) (λ c κs. search needs) code-at-requires (λ c κs. search needs) returns returns-2)
+no-such-part-spec = tie.close (tie.spec (λ c κs. search needs) (λ c κs. search needs) code-at-requires (λ c κs. search needs) returns returns-2)

@@ -1,7 +1,7 @@
 -- `drawing::faults::wrong_label` meets its contract: only a rule is looked at, at each of its kind's labels. Assumes nothing.
 use borrow.Author.Needs.{needs}
 use mathlib.Core.Path.{_∙_}
-use Rattle.drawing.proofs.Laws.{says-within}
+use Rattle.index.proofs.Laws.{says-within}
 use Rattle.drawing.proofs.Read.{wrong-label-yes, wrong-label-no}
 use Rattle.record.specs.Kinds.{firstRule, lastRule}
 use Rattle.drawing.proofs.faults.wrong_label.Statement.{statement}

@@ -39,7 +39,5 @@ returns-3 c =
 
 pub named-spec : {M : Type 1} → statement M
 named-spec =
-    tie.close (
-    tie.spec returns (λ c. search needs) (λ c. search needs) (λ c. search needs) (λ c. search needs) (λ c κs. search needs) returns-2 slice-aggregate-find
-    (λ c κs. search needs) returns-3
-    )
+    tie.close (tie.spec returns (λ c. search needs) (λ c. search needs) (λ c. search needs) (λ c. search needs) (λ c κs. search needs) returns-2
+    slice-aggregate-find (λ c κs. search needs) returns-3)

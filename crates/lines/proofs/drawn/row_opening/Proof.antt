@@ -55,19 +55,5 @@ returns c =
 
 pub row-opening-spec : {M : Type 1} → statement M
 row-opening-spec =
-    tie.close
-    (tie.spec
-    Inv-loop
-    μ-loop
-    (λ c. search needs)
-    (λ c κs. search needs)
-    (λ c κs. search needs)
-    loop-holds
-    mul-id-word
-    array-read-id-word
-    (λ c κs. search needs)
-    (λ c. omega arith)
-    (λ c. omega arith)
-    loop-again
-    (λ c. search needs)
-    returns)
+    tie.close (tie.spec Inv-loop μ-loop (λ c. search needs) (λ c κs. search needs) (λ c κs. search needs) loop-holds mul-id-word array-read-id-word
+    (λ c κs. search needs) (λ c. omega arith) (λ c. omega arith) loop-again (λ c. search needs) returns)
