@@ -1,4 +1,4 @@
--- How the code makes an answer: from the bytes of the records, and from what lowering wrote.
+-- How the code makes an answer: from the bytes of the records, and from what lowering wrote. It mirrors the code and need not be read.
 use mathlib.Core.Path.{_≡_}
 use mathlib.Core.Bool.{Bool, true, false}
 use mathlib.Core.List.{List, _++_}

@@ -1,4 +1,5 @@
--- Lowering step by step, as the code goes: shapes pushed in record order, and for each label of a rule the slots that it names, by their places.
+-- Lowering step by step, as the code goes: shapes pushed in record order, and for each label of a rule the slots that it names, by their places. It mirrors the code and
+-- need not be read.
 use mathlib.Core.Path.{_≡_}
 use mathlib.Core.Bool.{Bool, false, _||_, cond}
 use mathlib.Core.List.{List, [], _∷_, _++_}

@@ -1,4 +1,4 @@
--- What the functions inside the crate promise beside the function. Assumes nothing.
+-- What the functions inside the crate promise beside the function. It mirrors the code and need not be read. Assumes nothing.
 use mathlib.Core.Path.{_≡_}
 use Prim.Native.Nat.{ℕ, _*_, _^_, _≤_, _<_}
 
