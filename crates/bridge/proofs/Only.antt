@@ -12,7 +12,8 @@ use Rattle.record.specs.Entry.{Entry}
 use Rattle.lowering.specs.Lower.{Lowers}
 use Rattle.layout.specs.declared.ShapeKind.{ShapeKind}
 use Rattle.layout.specs.Push.{State, Fills}
-use Rattle.bridge.specs.Told.{Told, Tells, readingTold, loweredTold, pushedTold}
+use Rattle.bridge.specs.declared.told.Told.{Told}
+use Rattle.bridge.specs.Told.{Tells, readingTold, loweredTold, pushedTold}
 use Rattle.bridge.proofs.pages.hunposeto_read.Kinds as read-kinds
 use Rattle.bridge.proofs.pages.hunposeto_read.Reads as read
 use Rattle.bridge.proofs.pages.hunposeto_read_whole.Kinds as read-whole-kinds
@@ -53,7 +54,8 @@ use Rattle.bridge.proofs.shapes.hunposeto_arc.Reads as arc
 -- two answers that are one tell the same code and numbers
 same-told : {A : Type 0} {P Q : A → Type 0} (told : A → Told) (c d : ℕ) (m n : List ℕ) (p : Tells P told c m) (q : Tells Q told d n) → p .answer ≡ q .answer → (c ≡ d) × (m ≡ n)
 same-told told c d m n p q e =
-    (by-equation (p .code-is ∙ ap (λ x. told x .code) e) (q .code-is), by-equation (p .parts-are ∙ ap (λ x. told x .parts) e) (q .parts-are))
+    let same = by-equation (p .is ∙ ap told e) (q .is) in
+    (ap (λ t. t .code) same, ap (λ t. t .parts) same)
 
 -- an answer by an equation
 equal-told : {A : Type 0} {z : A} (told : A → Told) (c d : ℕ) (m n : List ℕ) → Tells (λ x. x ≡ z) told c m → Tells (λ x. x ≡ z) told d n → (c ≡ d) × (m ≡ n)

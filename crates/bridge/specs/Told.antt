@@ -7,6 +7,7 @@ use Prim.Native.Nat.{ℕ}
 use lib.Dec.{eqb, leb}
 use lib.ListN.{length}
 use lib.Ieee.{Float, binary64, toBits}
+use Rattle.bridge.specs.declared.told.Told.{Told}
 use Rattle.record.specs.Decode.{decodeAt}
 use Rattle.record.specs.Entry.{Label, viewOf}
 use Rattle.record.specs.Record.{labelPlaces}
@@ -42,29 +43,19 @@ use Rattle.layout.specs.Slots.{stageNumber}
 
 -- ---- codes and numbers
 
--- a code and six numbers
-pub record Told : Type 0 where
-  pub code : ℕ
-  pub parts : List ℕ
-
--- a place alone
-abbrev pub at : ℕ → List ℕ
-at place = place ∷ 0 ∷ 0 ∷ 0 ∷ 0 ∷ 0 ∷ []
-
 -- a good answer, by its parts
 abbrev pub good : List ℕ → Told
 good parts = record { code = 0; parts = parts }
 
 -- a refusal, by its number and place
 abbrev pub refused : Refusal → Told
-refused r = record { code = r .number; parts = at (r .place) }
+refused r = record { code = r .number; parts = r .place ∷ 0 ∷ 0 ∷ 0 ∷ 0 ∷ 0 ∷ [] }
 
 -- a code and numbers that tell an answer which the library's promise allows
 pub record Tells {A : Type 0} (promise : A → Type 0) (told : A → Told) (code : ℕ) (parts : List ℕ) : Type 0 where
   pub answer : A
   pub promised : promise answer
-  pub code-is : code ≡ told answer .code
-  pub parts-are : parts ≡ told answer .parts
+  pub is : record { code = code; parts = parts } ≡ told answer
 
 -- ---- pages and records
 

@@ -1,13 +1,11 @@
 // Pages and records: reading, the check, lowering, and what a record is asked for.
 use crate::PARTS;
-use crate::told::asked_code;
-use crate::told::asked_parts;
-use crate::told::checked_code;
-use crate::told::checked_parts;
-use crate::told::lowered_code;
-use crate::told::lowered_parts;
-use crate::told::reading_code;
-use crate::told::reading_parts;
+use crate::told::asked_told;
+use crate::told::checked_told;
+use crate::told::good;
+use crate::told::lowered_told;
+use crate::told::reading_told;
+use crate::told::tell;
 use drawing::check;
 use lowering::lower;
 use reader::parse_problem;
@@ -30,9 +28,7 @@ ghost use Rattle.bridge.specs.Told.{Tells, readingTold, checkedTold, low
 pub extern "C" fn hunposeto_read(text: &[u8], records: &mut [u8], out: &mut [u64; PARTS]) -> u64
     ensures { λ r. ⌜ Tells (λ x. Reads false (now (text .entry)) (now (records .entry)) x (now (records .exit))) readingTold r (now (out .exit)) ⌝ }
 {
-    let answer = parse_problem(text, records);
-    *out = reading_parts(answer);
-    reading_code(answer)
+    tell(reading_told(parse_problem(text, records)), out)
 }
 
 // The same, where the page has to be the whole text.
@@ -44,9 +40,7 @@ pub extern "C" fn hunposeto_read_whole(
 ) -> u64
     ensures { λ r. ⌜ Tells (λ x. Reads true (now (text .entry)) (now (records .entry)) x (now (records .exit))) readingTold r (now (out .exit)) ⌝ }
 {
-    let answer = parse_whole(text, records);
-    *out = reading_parts(answer);
-    reading_code(answer)
+    tell(reading_told(parse_whole(text, records)), out)
 }
 
 // Where label q of a record starts, and 0 where there is no such label or it is empty.
@@ -77,8 +71,7 @@ pub extern "C" fn hunposeto_label(
     let part = label(text, bytes, q);
     let len = part.len();
     let start = label_start(bytes, q, len);
-    *out = [start as u64, len as u64, 0, 0, 0, 0];
-    0
+    tell(good([start as u64, len as u64, 0, 0, 0, 0]), out)
 }
 
 // The angle of a record that has one.
@@ -86,9 +79,7 @@ pub extern "C" fn hunposeto_label(
 pub extern "C" fn hunposeto_angle(text: &[u8], bytes: &[u8], out: &mut [u64; PARTS]) -> u64
     ensures { λ r. ⌜ Tells (λ x. x ≡ angleOf (now (text .entry)) (now (bytes .entry))) askedTold r (now (out .exit)) ⌝ }
 {
-    let answer = angle_of(text, bytes);
-    *out = asked_parts(answer);
-    asked_code(answer)
+    tell(asked_told(angle_of(text, bytes)), out)
 }
 
 // The check of a drawing.
@@ -96,9 +87,7 @@ pub extern "C" fn hunposeto_angle(text: &[u8], bytes: &[u8], out: &mut [u64; PAR
 pub extern "C" fn hunposeto_check(text: &[u8], records: &[u8], out: &mut [u64; PARTS]) -> u64
     ensures { λ r. ⌜ Tells (λ x. x ≡ checkedOf (entries (now (text .entry)) (now (records .entry)))) checkedTold r (now (out .exit)) ⌝ }
 {
-    let answer = check(text, records);
-    *out = checked_parts(answer);
-    checked_code(answer)
+    tell(checked_told(check(text, records)), out)
 }
 
 // Lowers a drawing from the next id.
@@ -114,7 +103,8 @@ pub extern "C" fn hunposeto_lower(
 ) -> u64
     ensures { λ r. ⌜ Tells (λ x. Lowers (entries (now (text .entry)) (now (records .entry))) next (now (ids .entry)) (now (values .entry)) (now (rows .entry)) x (now (ids .exit)) (now (values .exit)) (now (rows .exit))) loweredTold r (now (out .exit)) ⌝ }
 {
-    let answer = lower(text, records, next, ids, values, rows);
-    *out = lowered_parts(answer);
-    lowered_code(answer)
+    tell(
+        lowered_told(lower(text, records, next, ids, values, rows)),
+        out,
+    )
 }

@@ -1,22 +1,15 @@
 // Layouts: pushes, `done`, lookups of ids, and readout. A layout crosses as its three counts and the number of its stage: 0 points,
 // 1 circles, 2 arcs, 3 done. Another number is an impossible stage, told by 20.
 use crate::PARTS;
-use crate::laid::arc_code;
-use crate::laid::arc_ids_code;
-use crate::laid::arc_ids_parts;
-use crate::laid::arc_parts;
-use crate::laid::circle_code;
-use crate::laid::circle_ids_code;
-use crate::laid::circle_ids_parts;
-use crate::laid::circle_parts;
-use crate::laid::point_code;
-use crate::laid::point_ids_code;
-use crate::laid::point_ids_parts;
-use crate::laid::point_parts;
-use crate::laid::pushed_code;
-use crate::laid::pushed_parts;
-use crate::laid::stepped_code;
-use crate::laid::stepped_parts;
+use crate::laid::arc_ids_told;
+use crate::laid::arc_told;
+use crate::laid::circle_ids_told;
+use crate::laid::circle_told;
+use crate::laid::point_ids_told;
+use crate::laid::point_told;
+use crate::laid::pushed_told;
+use crate::laid::stepped_told;
+use crate::told::tell;
 use layout::Arc;
 use layout::Circle;
 use layout::Layout;
@@ -88,9 +81,10 @@ pub extern "C" fn hunposeto_push_point(
     ensures { λ r. ⌜ Tells (λ p. Push (pointBy x y) (state (layoutBy points circles arcs stage) next (now (ids .entry)) (now (values .entry))) p (now (ids .exit)) (now (values .exit))) pushedTold r (now (out .exit)) ⌝ }
 {
     let shape = Point { x, y };
-    let answer = layout_by(points, circles, arcs, stage).push_point(next, ids, values, shape);
-    *out = pushed_parts(answer);
-    pushed_code(answer)
+    tell(
+        pushed_told(layout_by(points, circles, arcs, stage).push_point(next, ids, values, shape)),
+        out,
+    )
 }
 
 // Pushes a circle.
@@ -114,9 +108,10 @@ pub extern "C" fn hunposeto_push_circle(
         center: Point { x, y },
         radius,
     };
-    let answer = layout_by(points, circles, arcs, stage).push_circle(next, ids, values, shape);
-    *out = pushed_parts(answer);
-    pushed_code(answer)
+    tell(
+        pushed_told(layout_by(points, circles, arcs, stage).push_circle(next, ids, values, shape)),
+        out,
+    )
 }
 
 // Pushes an arc.
@@ -144,9 +139,10 @@ pub extern "C" fn hunposeto_push_arc(
         b: Point { x: bx, y: by },
         center: Point { x: cx, y: cy },
     };
-    let answer = layout_by(points, circles, arcs, stage).push_arc(next, ids, values, shape);
-    *out = pushed_parts(answer);
-    pushed_code(answer)
+    tell(
+        pushed_told(layout_by(points, circles, arcs, stage).push_arc(next, ids, values, shape)),
+        out,
+    )
 }
 
 // Steps from points to circles, to arcs, and to done.
@@ -160,9 +156,10 @@ pub extern "C" fn hunposeto_done(
 ) -> u64
     ensures { λ r. ⌜ Tells (λ x. x ≡ doneOf (layoutBy points circles arcs stage)) steppedTold r (now (out .exit)) ⌝ }
 {
-    let answer = layout_by(points, circles, arcs, stage).done();
-    *out = stepped_parts(answer);
-    stepped_code(answer)
+    tell(
+        stepped_told(layout_by(points, circles, arcs, stage).done()),
+        out,
+    )
 }
 
 // The ids of point i.
@@ -178,9 +175,10 @@ pub extern "C" fn hunposeto_point_ids(
 ) -> u64
     ensures { λ r. ⌜ Tells (λ x. x ≡ pointIds (layoutBy points circles arcs stage) (now (ids .entry)) i) pointIdsTold r (now (out .exit)) ⌝ }
 {
-    let answer = layout_by(points, circles, arcs, stage).point_ids(ids, i);
-    *out = point_ids_parts(answer);
-    point_ids_code(answer)
+    tell(
+        point_ids_told(layout_by(points, circles, arcs, stage).point_ids(ids, i)),
+        out,
+    )
 }
 
 // The ids of circle i.
@@ -196,9 +194,10 @@ pub extern "C" fn hunposeto_circle_ids(
 ) -> u64
     ensures { λ r. ⌜ Tells (λ x. x ≡ circleIds (layoutBy points circles arcs stage) (now (ids .entry)) i) circleIdsTold r (now (out .exit)) ⌝ }
 {
-    let answer = layout_by(points, circles, arcs, stage).circle_ids(ids, i);
-    *out = circle_ids_parts(answer);
-    circle_ids_code(answer)
+    tell(
+        circle_ids_told(layout_by(points, circles, arcs, stage).circle_ids(ids, i)),
+        out,
+    )
 }
 
 // The ids of arc i as geometry_variables.rs has it: they are looked for right after the points.
@@ -214,9 +213,10 @@ pub extern "C" fn hunposeto_arc_ids(
 ) -> u64
     ensures { λ r. ⌜ Tells (λ x. x ≡ arcIds (layoutBy points circles arcs stage) (now (ids .entry)) i) arcIdsTold r (now (out .exit)) ⌝ }
 {
-    let answer = layout_by(points, circles, arcs, stage).arc_ids(ids, i);
-    *out = arc_ids_parts(answer);
-    arc_ids_code(answer)
+    tell(
+        arc_ids_told(layout_by(points, circles, arcs, stage).arc_ids(ids, i)),
+        out,
+    )
 }
 
 // The ids of arc i, after the points and the circles.
@@ -232,9 +232,10 @@ pub extern "C" fn hunposeto_arc_slot_ids(
 ) -> u64
     ensures { λ r. ⌜ Tells (λ x. x ≡ arcSlotIds (layoutBy points circles arcs stage) (now (ids .entry)) i) arcIdsTold r (now (out .exit)) ⌝ }
 {
-    let answer = layout_by(points, circles, arcs, stage).arc_slot_ids(ids, i);
-    *out = arc_ids_parts(answer);
-    arc_ids_code(answer)
+    tell(
+        arc_ids_told(layout_by(points, circles, arcs, stage).arc_slot_ids(ids, i)),
+        out,
+    )
 }
 
 // Point i, read out.
@@ -250,9 +251,10 @@ pub extern "C" fn hunposeto_point(
 ) -> u64
     ensures { λ r. ⌜ Tells (λ x. x ≡ pointRead (layoutBy points circles arcs stage) (now (values .entry)) i) pointTold r (now (out .exit)) ⌝ }
 {
-    let answer = layout_by(points, circles, arcs, stage).point(values, i);
-    *out = point_parts(answer);
-    point_code(answer)
+    tell(
+        point_told(layout_by(points, circles, arcs, stage).point(values, i)),
+        out,
+    )
 }
 
 // Circle i, read out.
@@ -268,9 +270,10 @@ pub extern "C" fn hunposeto_circle(
 ) -> u64
     ensures { λ r. ⌜ Tells (λ x. x ≡ circleRead (layoutBy points circles arcs stage) (now (values .entry)) i) circleTold r (now (out .exit)) ⌝ }
 {
-    let answer = layout_by(points, circles, arcs, stage).circle(values, i);
-    *out = circle_parts(answer);
-    circle_code(answer)
+    tell(
+        circle_told(layout_by(points, circles, arcs, stage).circle(values, i)),
+        out,
+    )
 }
 
 // Arc i, read out.
@@ -286,7 +289,8 @@ pub extern "C" fn hunposeto_arc(
 ) -> u64
     ensures { λ r. ⌜ Tells (λ x. x ≡ arcRead (layoutBy points circles arcs stage) (now (values .entry)) i) arcTold r (now (out .exit)) ⌝ }
 {
-    let answer = layout_by(points, circles, arcs, stage).arc(values, i);
-    *out = arc_parts(answer);
-    arc_code(answer)
+    tell(
+        arc_told(layout_by(points, circles, arcs, stage).arc(values, i)),
+        out,
+    )
 }

@@ -8,15 +8,42 @@ use lowering::Lowered;
 use reader::Reading;
 use record::ask::Angle;
 use record::ask::Asked;
+use refusal::Refusal;
 ghost use mathlib.Core.Path.{_≡_};
 ghost use Rattle.layout.specs.Slots.{stageNumber};
-ghost use Rattle.bridge.specs.Told.{at, layoutParts, readingTold, checkedTold, loweredTold, angleParts, askedTold};
+ghost use Rattle.bridge.specs.Told.{good, refused, layoutParts, readingTold, checkedTold, loweredTold, angleParts, askedTold};
 
-// A place alone.
-pub(crate) fn at(place: usize) -> [u64; PARTS]
-    ensures { λ r. ⌜ r ≡ at place ⌝ }
+// A code and six numbers.
+pub struct Told {
+    pub code: u64,
+    pub parts: [u64; PARTS],
+}
+
+// A good answer, by its parts.
+pub(crate) fn good(parts: [u64; PARTS]) -> Told
+    ensures { λ r. ⌜ r ≡ good parts ⌝ }
 {
-    [place as u64, 0, 0, 0, 0, 0]
+    Told { code: 0, parts }
+}
+
+// A refusal, by its number and its place.
+pub(crate) fn refused(why: Refusal) -> Told
+    ensures { λ r. ⌜ r ≡ refused why ⌝ }
+{
+    let place = why.place as u64;
+    Told {
+        code: why.number as u64,
+        parts: [place, 0, 0, 0, 0, 0],
+    }
+}
+
+// Tells it: the code is answered, and the numbers are written.
+pub(crate) fn tell(told: Told, out: &mut [u64; PARTS]) -> u64
+    ensures { λ r. ⌜ record { code = r; parts = now (out .exit) } ≡ told ⌝ }
+{
+    let parts = told.parts;
+    *out = parts;
+    told.code
 }
 
 // The number of a stage.
@@ -48,49 +75,22 @@ pub(crate) fn layout_parts(l: Layout, e: u64, f: u64) -> [u64; PARTS]
 }
 
 // What a reading answers.
-pub(crate) fn reading_code(r: Reading) -> u64
-    ensures { λ c. ⌜ c ≡ readingTold r .code ⌝ }
-{
-    match r {
-        Reading::Good {
-            instructions: _,
-            guesses: _,
-            end: _,
-        } => 0,
-        Reading::Refused(r) => r.number as u64,
-    }
-}
-
-pub(crate) fn reading_parts(r: Reading) -> [u64; PARTS]
-    ensures { λ p. ⌜ p ≡ readingTold r .parts ⌝ }
+pub(crate) fn reading_told(r: Reading) -> Told
+    ensures { λ t. ⌜ t ≡ readingTold r ⌝ }
 {
     match r {
         Reading::Good {
             instructions,
             guesses,
             end,
-        } => [instructions as u64, guesses as u64, end as u64, 0, 0, 0],
-        Reading::Refused(r) => at(r.place),
+        } => good([instructions as u64, guesses as u64, end as u64, 0, 0, 0]),
+        Reading::Refused(why) => refused(why),
     }
 }
 
 // What the check answers.
-pub(crate) fn checked_code(r: Checked) -> u64
-    ensures { λ c. ⌜ c ≡ checkedTold r .code ⌝ }
-{
-    match r {
-        Checked::Passed {
-            points: _,
-            circles: _,
-            arcs: _,
-            rows: _,
-        } => 0,
-        Checked::Refused(r) => r.number as u64,
-    }
-}
-
-pub(crate) fn checked_parts(r: Checked) -> [u64; PARTS]
-    ensures { λ p. ⌜ p ≡ checkedTold r .parts ⌝ }
+pub(crate) fn checked_told(r: Checked) -> Told
+    ensures { λ t. ⌜ t ≡ checkedTold r ⌝ }
 {
     match r {
         Checked::Passed {
@@ -98,51 +98,33 @@ pub(crate) fn checked_parts(r: Checked) -> [u64; PARTS]
             circles,
             arcs,
             rows,
-        } => [
+        } => good([
             points as u64,
             circles as u64,
             arcs as u64,
             rows as u64,
             0,
             0,
-        ],
-        Checked::Refused(r) => at(r.place),
+        ]),
+        Checked::Refused(why) => refused(why),
     }
 }
 
 // What lowering answers.
-pub(crate) fn lowered_code(r: Lowered) -> u64
-    ensures { λ c. ⌜ c ≡ loweredTold r .code ⌝ }
+pub(crate) fn lowered_told(r: Lowered) -> Told
+    ensures { λ t. ⌜ t ≡ loweredTold r ⌝ }
 {
     match r {
-        Lowered::Good {
-            layout: _,
-            next: _,
-            rows: _,
-        } => 0,
-        Lowered::Refused(r) => r.number as u64,
+        Lowered::Good { layout, next, rows } => good(layout_parts(
+            layout,
+            next as u64,
+            rows as u64,
+        )),
+        Lowered::Refused(why) => refused(why),
     }
 }
 
-pub(crate) fn lowered_parts(r: Lowered) -> [u64; PARTS]
-    ensures { λ p. ⌜ p ≡ loweredTold r .parts ⌝ }
-{
-    match r {
-        Lowered::Good { layout, next, rows } => layout_parts(layout, next as u64, rows as u64),
-        Lowered::Refused(r) => at(r.place),
-    }
-}
-
-// What is asked of a record about its angle.
-pub(crate) fn asked_code(r: Asked) -> u64
-    ensures { λ c. ⌜ c ≡ askedTold r .code ⌝ }
-{
-    match r {
-        Asked::Angle(_) => 0,
-        Asked::Refused(r) => r.number as u64,
-    }
-}
-
+// An angle: 1 or 2, and the bits of its number.
 fn angle_parts(a: Angle) -> [u64; PARTS]
     ensures { λ p. ⌜ p ≡ angleParts a ⌝ }
 {
@@ -152,11 +134,12 @@ fn angle_parts(a: Angle) -> [u64; PARTS]
     }
 }
 
-pub(crate) fn asked_parts(r: Asked) -> [u64; PARTS]
-    ensures { λ p. ⌜ p ≡ askedTold r .parts ⌝ }
+// What is asked of a record about its angle.
+pub(crate) fn asked_told(r: Asked) -> Told
+    ensures { λ t. ⌜ t ≡ askedTold r ⌝ }
 {
     match r {
-        Asked::Angle(angle) => angle_parts(angle),
-        Asked::Refused(r) => at(r.place),
+        Asked::Angle(angle) => good(angle_parts(angle)),
+        Asked::Refused(why) => refused(why),
     }
 }
