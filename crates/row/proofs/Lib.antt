@@ -1,2 +1,4 @@
 pub mod Back
+pub mod Examples
 pub mod Only
+pub mod Rows

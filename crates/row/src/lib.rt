@@ -1,4 +1,6 @@
 // The row of 44 bytes that a rule is lowered to: written to bytes, and read from them.
+pub mod formed;
+
 ghost use mathlib.Core.Path.{_≡_};
 ghost use Prim.Native.Nat.{_+_, _<_};
 ghost use lib.ListN.{length};

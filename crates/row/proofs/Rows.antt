@@ -1,0 +1,110 @@
+-- The test of rows says what their words say, and a loop over rows comes to it. Assumes nothing.
+use mathlib.Core.Path.{_≡_, refl, sym, ap, _∙_}
+use mathlib.Core.Bool.{Bool, true, false}
+use mathlib.Core.List.{List, [], _∷_}
+use Prim.Native.Nat.{ℕ, zero, suc, _+_, _*_, _/_, _%_, _≤_, _<_}
+use native.Mathlib.Numerals.{add-one}
+use native.Mathlib.Omega.{arith}
+use lib.ListN.{length, getD, drop, List·getD-eq-default}
+use lib.Seq.{getD-take, getD-drop}
+use borrow.Author.Tests.{lt-ltb, eq-eqb}
+use Rattle.refusal.specs.First.{allBelow, EachBelow}
+use Rattle.refusal.proofs.Says.{Says, says-iff, says-and, says-if, says-all, says-eq, says-le, says-lt, refuted, fails, says-so}
+use Rattle.bytes.specs.Little.{byte}
+use Rattle.layout.specs.Slots.{sizeOf}
+use Rattle.layout.specs.declared.ShapeKind.the-variants.{Point, Circle, Arc}
+use Rattle.record.specs.Kinds.{table, cell, kindAt, needsColumn, firstRule, lastRule, none}
+use Rattle.record.specs.Record.{labelPlaces}
+use Rattle.record.proofs.Cells.{looked, needs-is}
+use Rattle.row.specs.declared.Row.{Row as Held}
+use Rattle.row.specs.Row.{rowBytes, rowMark, mostIds, rowNo, rowOf, heldIn}
+use Rattle.row.specs.Formed.{idsFor, idsAt, idsOf, FieldsFormed, RowFormed, RowsFormed, fieldsTest, rowTest, rowsTest}
+
+-- ---- the ids of a kind
+
+-- a need past those that come to ids comes to none
+pub none-for : (need : ℕ) → 6 ≤ need → 0 ≡ idsFor need
+none-for need h = sym (List·getD-eq-default (0 ∷ sizeOf Point ∷ sizeOf Circle ∷ sizeOf Arc ∷ 1 ∷ 1 ∷ []) 0 h)
+
+-- no label comes to more than an arc
+few : (need : ℕ) → idsFor need ≤ 6
+few zero = omega arith
+few (suc zero) = omega arith
+few (suc (suc zero)) = omega arith
+few (suc (suc (suc zero))) = omega arith
+few (suc (suc (suc (suc zero)))) = omega arith
+few (suc (suc (suc (suc (suc zero))))) = omega arith
+few (suc (suc (suc (suc (suc (suc n)))))) = omega arith
+
+-- the ids of a label place, by its need in the table as it is lent
+pub by-need : (lent : List (List ℕ)) (kind q need ids : ℕ) → lent ≡ table → q < labelPlaces → need ≡ cell lent kind (needsColumn + q) → ids ≡ idsFor need
+    → (ids ≡ idsAt kind q) × (ids ≤ sizeOf Arc)
+by-need lent kind q need ids e h found is =
+    let all = is ∙ ap idsFor (looked lent kind (needsColumn + q) need e found (needs-is kind q h)) in
+    (all, omega (arith, is, few need))
+
+-- ---- what the tests say
+
+says-fields : (h : Held) → Says (fieldsTest (kindAt (h .kind)) h) (FieldsFormed h)
+says-fields h =
+    says-iff
+    (λ w. record { rule = (w .0, w .1 .0); count = w .1 .1 .0; third = w .1 .1 .1 .0; unused = w .1 .1 .1 .1 .0; no-number = w .1 .1 .1 .1 .1 })
+    (λ f. (f .rule .0, (f .rule .1, (f .count, (f .third, (f .unused, f .no-number))))))
+    (says-and (says-le firstRule (h .kind))
+    (says-and (says-le (h .kind) lastRule)
+    (says-and (says-eq (h .count) (idsOf (h .kind)))
+    (says-and (says-and (says-le (h .third) (kindAt (h .kind) .thirds)) (says-if (says-lt 0 (kindAt (h .kind) .thirds)) (says-lt 0 (h .third))))
+    (says-and (says-all _ _ (λ q. says-if (says-le (h .count) q) (says-eq (getD (h .ids) q 0) 0)) mostIds)
+    (says-if (says-eq (kindAt (h .kind) .number) none) (says-eq (h .bits) 0)))))))
+
+says-row : (b : List ℕ) → Says (rowTest b) (RowFormed b)
+unfolding rowTest
+says-row b = says-iff (λ w. record { marked = w .0; fields = w .1 }) (λ f. (f .marked, f .fields)) (says-and (says-eq (byte b 0) rowMark) (says-fields (heldIn b)))
+
+-- the test of rows is passed exactly by well formed rows
+pub says-rows : (rows : List ℕ) → Says (rowsTest rows) (RowsFormed rows)
+unfolding rowsTest
+says-rows rows =
+    says-iff (λ w. record { whole = w .0; each = w .1 }) (λ f. (f .whole, f .each))
+    (says-and (says-eq (length rows % rowBytes) 0) (says-all _ _ (λ i. says-row (rowNo rows i)) (length rows / rowBytes)))
+
+-- ---- a row of a list
+
+pub row-there : (rows : List ℕ) (i : ℕ) → i < length rows / rowBytes → rowOf rows i ≡ rowNo rows i
+unfolding rowOf
+row-there rows i h = rw (lt-ltb i (length rows / rowBytes) h) refl
+
+-- its mark
+pub mark-at : (rows : List ℕ) (i : ℕ) → byte (rowNo rows i) 0 ≡ getD rows (i * rowBytes) 0
+mark-at rows i =
+    let start : i * rowBytes + 0 ≡ i * rowBytes = omega arith in
+    rw (getD-take rowBytes (drop (i * rowBytes) rows) 0 0 (omega arith), getD-drop (i * rowBytes) rows 0 0, start) refl
+
+-- ---- the loop
+
+module _ (rows : List ℕ) where
+  -- the first n rows are well formed
+  abbrev pub formedBelow : ℕ → Bool
+  formedBelow n = allBelow n (λ i. rowTest (rowNo rows i))
+
+  says-tested : Says (rowsTest rows) ((length rows % rowBytes ≡ 0) × EachBelow (length rows / rowBytes) (λ i. rowTest (rowNo rows i) ≡ true))
+  unfolding rowsTest
+  says-tested = says-and (says-eq (length rows % rowBytes) 0) (says-all _ _ (λ i. says-so) (length rows / rowBytes))
+
+  -- the last row is not whole
+  pub not-whole : (length rows % rowBytes ≡ 0 → ⊥) → false ≡ rowsTest rows
+  not-whole f = sym (refuted says-tested (λ w. f (w .0)))
+
+  module _ (i : ℕ) where
+    -- a row is not well formed
+    pub bad-row : i < length rows / rowBytes → rowTest (rowNo rows i) ≡ false → false ≡ rowsTest rows
+    bad-row h e = sym (refuted says-tested (λ w. fails says-so e (w .1 i h)))
+
+    pub more-rows : formedBelow i ≡ true → rowTest (rowNo rows i) ≡ true → formedBelow (i + 1) ≡ true
+    more-rows e f = rw (add-one, e, f) refl
+
+    pub all-rows : length rows % rowBytes ≡ 0 → formedBelow i ≡ true → i ≤ length rows / rowBytes → length rows / rowBytes ≤ i → true ≡ rowsTest rows
+    unfolding rowsTest
+    all-rows whole e f g =
+        let all : length rows / rowBytes ≡ i = omega arith in
+        sym (rw (eq-eqb (length rows % rowBytes) 0 whole, all) e)

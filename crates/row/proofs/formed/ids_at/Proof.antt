@@ -1,0 +1,15 @@
+-- `row::formed::ids_at` meets its contract: what the table says that the place needs comes to so many ids, and past those needs to none. Assumes nothing.
+use mathlib.Core.Path.{refl}
+use borrow.Author.Needs.{needs}
+use Rattle.row.proofs.Rows.{none-for, by-need}
+use Rattle.row.proofs.formed.ids_at.Statement.{statement}
+use Rattle.row.proofs.formed.ids_at.Tie as tie
+
+returns : tie.Need-returns
+returns c = by-need _ _ _ _ 0 (c .before .before .pre .0) (c .before .before .pre .1) (c .before .look .ensures) (none-for _ (c .if1 .taken))
+
+returns-2 : tie.Need-returns-2
+returns-2 c = by-need _ _ _ _ _ (c .before .before .pre .0) (c .before .before .pre .1) (c .before .look .ensures) refl
+
+pub ids-at-spec : {M : Type 1} → statement M
+ids-at-spec = tie.close (tie.spec (λ c. search needs) (λ c κs. search needs) (λ c. search needs) returns (λ c. search needs) (λ c. search needs) returns-2)
