@@ -32,14 +32,14 @@ use Rattle.lowering.specs.Rows.{rowFor, rulesOf, rowsOf}
 use Rattle.lowering.specs.Lower.{Room, roomIn, lowerOf, Lowers}
 use Rattle.lowering.specs.Demand.{Enough}
 use Rattle.row.proofs.Back.{length-row}
-use Rattle.lowering.proofs.Bytes.{ids-given, count-rows}
+use Rattle.lowering.proofs.rows.Bytes.{ids-given, count-rows}
 use Rattle.index.proofs.Laws.{says-within}
-use Rattle.lowering.proofs.Counts.{rules-pick}
-use Rattle.lowering.proofs.Fine.{Fine, fine}
-use Rattle.lowering.proofs.Lacking.{lower-good, lower-refused}
+use Rattle.lowering.proofs.drawing.Counts.{rules-pick}
+use Rattle.lowering.proofs.drawing.Fine.{Fine, fine}
+use Rattle.lowering.proofs.answer.Lacking.{lower-good, lower-refused}
 use Rattle.ground.proofs.Pieces.{Each, each-map, each-at, length-flat, piece-at, getD-map, map-each, picks-each}
-use Rattle.lowering.proofs.Rows.{ids-few}
-use Rattle.lowering.proofs.Values.{length-values}
+use Rattle.lowering.proofs.rows.Labels.{ids-few}
+use Rattle.lowering.proofs.slots.Values.{length-values}
 use Rattle.lines.specs.Drawn.{loweredLine, slotLine, rowLine}
 use Rattle.lines.proofs.RowBack.{row-printed}
 use Rattle.answers.specs.Answers.{slotLines, drawingLines}

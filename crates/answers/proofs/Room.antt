@@ -18,7 +18,7 @@ use Rattle.lowering.specs.Rows.{rulesOf}
 use Rattle.lowering.specs.Lower.{Room}
 use Rattle.lowering.specs.Demand.{Enough}
 use Rattle.index.proofs.Laws.{within-one}
-use Rattle.lowering.proofs.Counts.{count-le, rules-all, slot-count}
+use Rattle.lowering.proofs.drawing.Counts.{count-le, rules-all, slot-count}
 
 -- a number is one of 1, 2 and 3 at most once
 once : (k : ℕ) → cond (within 1 1 k) 1 0 + cond (within 2 2 k) 1 0 + cond (within 3 3 k) 1 0 ≤ 1

@@ -29,14 +29,14 @@ use Rattle.row.specs.Row.{encodeRows}
 use Rattle.lowering.specs.Rows.{rulesOf, rowsOf}
 use Rattle.lowering.specs.Lower.{lowerOf, unless, onto, roomIn, Lowers}
 use Rattle.lowering.specs.Demand.{rulesBefore, CannotGoWrong, PassedLowersWell}
-use Rattle.lowering.proofs.Lacking.{lower-good}
-use Rattle.lowering.proofs.Counts.{rules-all, slot-count}
-use Rattle.lowering.proofs.Fine.{Fine, fine, passed-with}
-use Rattle.lowering.proofs.Places.{one-component, slot-of}
-use Rattle.lowering.proofs.Values.{starts, length-values, value-at}
-use Rattle.lowering.proofs.Fields.{read-out}
-use Rattle.lowering.proofs.Looked.{looked-up}
-use Rattle.lowering.proofs.Bytes.{rule-inside, row-of}
+use Rattle.lowering.proofs.answer.Lacking.{lower-good}
+use Rattle.lowering.proofs.drawing.Counts.{rules-all, slot-count}
+use Rattle.lowering.proofs.drawing.Fine.{Fine, fine, passed-with}
+use Rattle.lowering.proofs.slots.Components.{one-component, slot-of}
+use Rattle.lowering.proofs.slots.Values.{starts, length-values, value-at}
+use Rattle.lowering.proofs.slots.Fields.{read-out}
+use Rattle.lowering.proofs.slots.Looked.{looked-up}
+use Rattle.lowering.proofs.rows.Bytes.{rule-inside, row-of}
 
 -- ---- the list of a drawing is short enough for a layout
 

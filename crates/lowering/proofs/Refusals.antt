@@ -26,7 +26,7 @@ use Rattle.lowering.specs.Slots.{slots, layoutOf}
 use Rattle.lowering.specs.Rows.{rulesOf}
 use Rattle.lowering.specs.Lower.{Room, Lack, lackOrder, lackNumber, lacking, lackOf, lowerOf}
 use Rattle.lowering.specs.Refusals.{Cause, fault, lack, causes, causeNumber, Causes}
-use Rattle.lowering.proofs.Lacking.{says-lacking}
+use Rattle.lowering.proofs.answer.Lacking.{says-lacking}
 
 -- ---- one answer behind another
 

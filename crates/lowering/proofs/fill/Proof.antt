@@ -1,5 +1,5 @@
 -- `lowering::fill` meets its contract: the slots, then the rows. Assumes nothing.
-use Rattle.lowering.proofs.Joining.{then-writable, then-filled}
+use Rattle.lowering.proofs.answer.Joining.{then-writable, then-filled}
 use borrow.Author.Needs.{needs}
 use Rattle.lowering.proofs.fill.Statement.{statement}
 use Rattle.lowering.proofs.fill.Tie as tie

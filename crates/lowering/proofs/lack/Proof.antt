@@ -1,7 +1,7 @@
 -- `lowering::lack` meets its contract: each test in turn. Assumes nothing.
 use native.Mathlib.Omega.{arith}
 use Rattle.lowering.specs.Lower.{roomBy}
-use Rattle.lowering.proofs.Stepping.{few-left, too-short, few-bytes, nothing-lacks}
+use Rattle.lowering.proofs.slots.Steps.{few-left, too-short, few-bytes, nothing-lacks}
 use borrow.Author.Needs.{needs}
 use Rattle.lowering.proofs.lack.Statement.{statement}
 use Rattle.lowering.proofs.lack.Tie as tie

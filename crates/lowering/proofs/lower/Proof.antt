@@ -4,7 +4,7 @@ use mathlib.Core.Path.{sym, _∙_, ap}
 use Prim.Native.Nat.{ℕ, _+_, _*_}
 use Rattle.lowering.specs.Lower.{roomIn}
 use Rattle.lowering.specs.Steps.{lackTold}
-use Rattle.lowering.proofs.Ends.{refused-ends, enough-for, lacking-ends, few-counted, passing-is, good-ends}
+use Rattle.lowering.proofs.answer.Ends.{refused-ends, enough-for, lacking-ends, few-counted, passing-is, good-ends}
 use borrow.Author.Needs.{needs}
 use Rattle.lowering.proofs.lower.Statement.{statement}
 use Rattle.lowering.proofs.lower.Tie as tie

@@ -5,8 +5,8 @@ use lib.ListN.{length}
 use Rattle.index.specs.Labels.{drawn}
 use Rattle.index.proofs.Drawn.{drawn-kind}
 use Rattle.lowering.specs.Steps.{namingBy}
-use Rattle.lowering.proofs.Spanning.{six-length}
-use Rattle.lowering.proofs.Filling.{shape-in, span-fits, span-count, added}
+use Rattle.lowering.proofs.ids.Six.{six-length}
+use Rattle.lowering.proofs.rows.Filling.{shape-in, span-fits, span-count, added}
 use borrow.Author.Needs.{needs}
 use Rattle.lowering.proofs.rules.add_label.Statement.{statement}
 use Rattle.lowering.proofs.rules.add_label.Tie as tie

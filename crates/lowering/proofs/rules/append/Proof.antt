@@ -1,5 +1,5 @@
 -- `lowering::rules::append` meets its contract: after k turns the first k of the ids are in their places. Assumes nothing.
-use Rattle.lowering.proofs.Naming.{Appending, append-start, append-turn, append-end}
+use Rattle.lowering.proofs.ids.Spans.{Appending, append-start, append-turn, append-end}
 use native.Mathlib.Omega.{arith}
 use borrow.Author.Needs.{needs}
 use Prim.Native.Nat.{_-_}

@@ -3,7 +3,7 @@ use native.Mathlib.Omega.{arith}
 use mathlib.Core.Path.{refl}
 use Rattle.index.proofs.Drawn.{drawn-length}
 use Rattle.index.proofs.Found.{chained}
-use Rattle.lowering.proofs.Joining.{tables-are}
+use Rattle.lowering.proofs.answer.Joining.{tables-are}
 use borrow.Author.Needs.{needs}
 use Rattle.lowering.proofs.rules.fill_rows.Statement.{statement}
 use Rattle.lowering.proofs.rules.fill_rows.Tie as tie

@@ -1,6 +1,6 @@
 -- `lowering::rules::row_at` meets its contract: the ids, and then the bytes. Assumes nothing.
 use borrow.Author.Needs.{needs}
-use Rattle.lowering.proofs.Filling.{row-is}
+use Rattle.lowering.proofs.rows.Filling.{row-is}
 use Rattle.lowering.proofs.rules.row_at.Statement.{statement}
 use Rattle.lowering.proofs.rules.row_at.Tie as tie
 

@@ -7,7 +7,7 @@ use lib.ListN.{length}
 use Rattle.record.specs.Entry.{entryAt}
 use Rattle.index.specs.Labels.{drawn}
 use Rattle.index.proofs.Drawn.{drawn-label}
-use Rattle.lowering.proofs.Filling.{Filling, filling-start, filling-turn, filling-end, labels-count, addable, added-of, room-for}
+use Rattle.lowering.proofs.rows.Filling.{Filling, filling-start, filling-turn, filling-end, labels-count, addable, added-of, room-for}
 use Rattle.lowering.proofs.rules.row_ids.Statement.{statement}
 use Rattle.lowering.proofs.rules.row_ids.Tie as tie
 

@@ -2,7 +2,7 @@
 use Rattle.lowering.specs.Steps.{sixOf}
 use native.Mathlib.Omega.{arith}
 use mathlib.Core.Path.{sym, _∙_}
-use Rattle.lowering.proofs.Stepping.{is-first, is-second, is-other}
+use Rattle.lowering.proofs.slots.Steps.{is-first, is-second, is-other}
 use borrow.Author.Needs.{needs}
 use Rattle.lowering.proofs.rules.six_of.Statement.{statement}
 use Rattle.lowering.proofs.rules.six_of.Tie as tie

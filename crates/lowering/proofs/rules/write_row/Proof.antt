@@ -3,7 +3,7 @@ use native.Mathlib.Omega.{arith}
 use mathlib.Core.Path.{sym, _∙_}
 use Rattle.index.specs.Labels.{drawn}
 use Rattle.index.proofs.Drawn.{drawn-kind}
-use Rattle.lowering.proofs.Filling.{wrote-none, a-rule, wrote-row}
+use Rattle.lowering.proofs.rows.Filling.{wrote-none, a-rule, wrote-row}
 use borrow.Author.Needs.{needs}
 use Rattle.lowering.proofs.rules.write_row.Statement.{statement}
 use Rattle.lowering.proofs.rules.write_row.Tie as tie

@@ -4,7 +4,7 @@ use borrow.Author.Needs.{needs}
 use Prim.Native.Nat.{_-_}
 use Rattle.index.specs.Labels.{drawn}
 use Rattle.index.proofs.Drawn.{drawn-length}
-use Rattle.lowering.proofs.Filling.{Writes, writes-start, writing, writes-turn, writes-end}
+use Rattle.lowering.proofs.rows.Filling.{Writes, writes-start, writing, writes-turn, writes-end}
 use Rattle.lowering.proofs.rules.write_rows.Statement.{statement}
 use Rattle.lowering.proofs.rules.write_rows.Tie as tie
 

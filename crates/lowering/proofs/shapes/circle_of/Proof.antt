@@ -1,7 +1,7 @@
 -- `lowering::shapes::circle_of` meets its contract: the pair of its center, and the number of its radius. Assumes nothing.
 use mathlib.Core.Path.{refl}
 use Rattle.ground.specs.Words.{bytes}
-use Rattle.lowering.proofs.Starting.{number-is}
+use Rattle.lowering.proofs.slots.Guesses.{number-is}
 use borrow.Author.Needs.{needs}
 use Rattle.lowering.proofs.shapes.circle_of.Statement.{statement}
 use Rattle.lowering.proofs.shapes.circle_of.Tie as tie

@@ -1,7 +1,7 @@
 -- `lowering::shapes::fill_slots` meets its contract: the chains of the guesses, then the pushes. Assumes nothing.
 use mathlib.Core.Path.{refl}
 use Rattle.index.proofs.Found.{chained}
-use Rattle.lowering.proofs.Stepping.{slotted}
+use Rattle.lowering.proofs.slots.Steps.{slotted}
 use borrow.Author.Needs.{needs}
 use Rattle.lowering.proofs.shapes.fill_slots.Statement.{statement}
 use Rattle.lowering.proofs.shapes.fill_slots.Tie as tie

@@ -1,5 +1,5 @@
 -- `lowering::shapes::guess_of` meets its contract: the guess that is found. Assumes nothing.
-use Rattle.lowering.proofs.Starting.{guess-found}
+use Rattle.lowering.proofs.slots.Guesses.{guess-found}
 use borrow.Author.Needs.{needs}
 use Rattle.lowering.proofs.shapes.guess_of.Statement.{statement}
 use Rattle.lowering.proofs.shapes.guess_of.Tie as tie

@@ -5,7 +5,7 @@ use Rattle.layout.specs.declared.Layout.{Layout}
 use Rattle.layout.specs.Slots.{empty}
 use Rattle.layout.specs.Push.{state}
 use Rattle.lowering.specs.Steps.{stage}
-use Rattle.lowering.proofs.Stepping.{laid-by}
+use Rattle.lowering.proofs.slots.Steps.{laid-by}
 use borrow.Author.Needs.{needs}
 use Rattle.lowering.proofs.shapes.lay.Statement.{statement}
 use Rattle.lowering.proofs.shapes.lay.Tie as tie

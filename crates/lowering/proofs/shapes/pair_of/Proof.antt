@@ -1,5 +1,5 @@
 -- `lowering::shapes::pair_of` meets its contract: both numbers of the guess. Assumes nothing.
-use Rattle.lowering.proofs.Starting.{pair-is}
+use Rattle.lowering.proofs.slots.Guesses.{pair-is}
 use borrow.Author.Needs.{needs}
 use Rattle.lowering.proofs.shapes.pair_of.Statement.{statement}
 use Rattle.lowering.proofs.shapes.pair_of.Tie as tie

@@ -6,7 +6,7 @@ use Rattle.record.specs.Decode.{countOf}
 use Rattle.index.specs.Labels.{drawn}
 use Rattle.index.proofs.Drawn.{drawn-length}
 use Rattle.layout.specs.Push.{state}
-use Rattle.lowering.proofs.Stepping.{Pushes, pushes-start, pushes-turn, pushes-end}
+use Rattle.lowering.proofs.slots.Steps.{Pushes, pushes-start, pushes-turn, pushes-end}
 use Rattle.lowering.proofs.shapes.push_all.Statement.{statement}
 use Rattle.lowering.proofs.shapes.push_all.Tie as tie
 

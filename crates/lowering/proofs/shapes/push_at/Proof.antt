@@ -3,7 +3,7 @@ use mathlib.Core.Path.{sym, _∙_}
 use Rattle.index.specs.Labels.{drawn}
 use Rattle.index.proofs.Drawn.{drawn-kind, drawn-label}
 use Rattle.lowering.specs.Steps.{shapeFor, shapeOf}
-use Rattle.lowering.proofs.Stepping.{pushed-one, pushed-none, push-state}
+use Rattle.lowering.proofs.slots.Steps.{pushed-one, pushed-none, push-state}
 use borrow.Author.Needs.{needs}
 use Rattle.lowering.proofs.shapes.push_at.Statement.{statement}
 use Rattle.lowering.proofs.shapes.push_at.Tie as tie

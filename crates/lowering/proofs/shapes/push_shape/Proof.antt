@@ -5,7 +5,7 @@ use Rattle.index.specs.Labels.{drawn}
 use Rattle.lowering.specs.Steps.{shapeFor, shapeOf}
 use native.Mathlib.Omega.{arith}
 use Rattle.drawing.specs.Needs.{Shape, point, circle, arc}
-use Rattle.lowering.proofs.Stepping.{push-as, is-first, is-second, is-other}
+use Rattle.lowering.proofs.slots.Steps.{push-as, is-first, is-second, is-other}
 use borrow.Author.Needs.{needs}
 use Rattle.lowering.proofs.shapes.push_shape.Statement.{statement}
 use Rattle.lowering.proofs.shapes.push_shape.Tie as tie

@@ -3,7 +3,7 @@ use mathlib.Core.Path.{ap}
 use Rattle.index.specs.Labels.{drawn}
 use Rattle.layout.specs.Push.{state}
 use Rattle.lowering.specs.declared.shapes.Laid.{Laid}
-use Rattle.lowering.proofs.Stepping.{staged}
+use Rattle.lowering.proofs.slots.Steps.{staged}
 use borrow.Author.Needs.{needs}
 use Rattle.lowering.proofs.shapes.push_stage.Statement.{statement}
 use Rattle.lowering.proofs.shapes.push_stage.Tie as tie

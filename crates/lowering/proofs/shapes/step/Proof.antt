@@ -1,7 +1,7 @@
 -- `lowering::shapes::step` meets its contract: a stage that is refused stays. Assumes nothing.
 use mathlib.Core.Path.{ap}
 use Rattle.layout.specs.declared.Layout.{Layout}
-use Rattle.lowering.proofs.Stepping.{step-taken, step-refused}
+use Rattle.lowering.proofs.slots.Steps.{step-taken, step-refused}
 use borrow.Author.Needs.{needs}
 use Rattle.lowering.proofs.shapes.step.Statement.{statement}
 use Rattle.lowering.proofs.shapes.step.Tie as tie

@@ -1,6 +1,6 @@
 -- `lowering::spans::center_span` meets its contract: the center of the shape that is found. Assumes nothing.
 use native.Mathlib.Omega.{arith}
-use Rattle.lowering.proofs.Naming.{span-center, center-small}
+use Rattle.lowering.proofs.ids.Spans.{span-center, center-small}
 use borrow.Author.Needs.{needs}
 use Rattle.lowering.proofs.spans.center_span.Statement.{statement}
 use Rattle.lowering.proofs.spans.center_span.Tie as tie

@@ -4,7 +4,7 @@ use mathlib.Core.Path.{sym, _∙_}
 use Prim.Native.Nat.{_-_}
 use lib.ListN.{length}
 use Rattle.index.proofs.Laws.{rest-of}
-use Rattle.lowering.proofs.Naming.{ends-short, ends-long}
+use Rattle.lowering.proofs.ids.Spans.{ends-short, ends-long}
 use borrow.Author.Needs.{needs}
 use Rattle.lowering.proofs.spans.ends_in.Statement.{statement}
 use Rattle.lowering.proofs.spans.ends_in.Tie as tie

@@ -3,7 +3,7 @@ use native.Mathlib.Omega.{arith}
 use borrow.Author.Needs.{needs}
 use Prim.Native.Nat.{_-_}
 use Rattle.record.specs.Decode.{decodeAt}
-use Rattle.lowering.proofs.Numbering.{Numbering, numbering-start, numbering-turn, count-small}
+use Rattle.lowering.proofs.ids.Numbers.{Numbering, numbering-start, numbering-turn, count-small}
 use Rattle.lowering.proofs.spans.number.Statement.{statement}
 use Rattle.lowering.proofs.spans.number.Tie as tie
 

@@ -3,7 +3,7 @@ use native.Mathlib.Omega.{arith}
 use mathlib.Core.Path.{sym, _∙_}
 use lib.Seq.{length-take-le}
 use Rattle.ground.specs.Words.{bytes}
-use Rattle.lowering.proofs.Naming.{ends-length, part-center, part-point, span-point}
+use Rattle.lowering.proofs.ids.Spans.{ends-length, part-center, part-point, span-point}
 use borrow.Author.Needs.{needs}
 use Rattle.lowering.proofs.spans.part_span.Statement.{statement}
 use Rattle.lowering.proofs.spans.part_span.Tie as tie

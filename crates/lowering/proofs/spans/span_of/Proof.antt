@@ -3,7 +3,7 @@ use Rattle.record.specs.Kinds.{assigned, a-round}
 use Rattle.lowering.specs.Rows.{whole, part, center}
 use Rattle.lowering.specs.Steps.{spanOf}
 use native.Mathlib.Omega.{arith}
-use Rattle.lowering.proofs.Stepping.{is-first, is-second, is-other}
+use Rattle.lowering.proofs.slots.Steps.{is-first, is-second, is-other}
 use borrow.Author.Needs.{needs}
 use Rattle.lowering.proofs.spans.span_of.Statement.{statement}
 use Rattle.lowering.proofs.spans.span_of.Tie as tie

@@ -1,5 +1,5 @@
 -- `lowering::spans::whole_span` meets its contract: every slot of the shape that is found. Assumes nothing.
-use Rattle.lowering.proofs.Naming.{span-whole}
+use Rattle.lowering.proofs.ids.Spans.{span-whole}
 use borrow.Author.Needs.{needs}
 use Rattle.lowering.proofs.spans.whole_span.Statement.{statement}
 use Rattle.lowering.proofs.spans.whole_span.Tie as tie

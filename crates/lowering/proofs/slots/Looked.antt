@@ -20,7 +20,7 @@ use Rattle.drawing.specs.Needs.{Shape, point, circle, arc}
 use Rattle.lowering.specs.Slots.{Slot, slotsOfShape, slots, size, before, kindFor, layoutOf, firstSlot}
 use Rattle.lowering.specs.Fields.{Ids, of-point, of-circle, of-arc, idsKind, idOf}
 use Rattle.lowering.specs.Demand.{noSlot, Declares, ComponentOf, HandsIds, LookedUp}
-use Rattle.lowering.proofs.Counts.{before-inside, length-slots, possible}
+use Rattle.lowering.proofs.drawing.Counts.{before-inside, length-slots, possible}
 
 -- ---- the ids of a shape, in the order of its components' names
 

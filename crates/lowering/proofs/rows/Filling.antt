@@ -35,8 +35,8 @@ use Rattle.lowering.specs.Steps.{namingBy, spanOf, sixOf, numberNo, span
 use Rattle.ground.proofs.Pieces.{flat-suc, flat-append}
 use Rattle.index.proofs.Laws.{says-within}
 use Rattle.row.proofs.Back.{length-row}
-use Rattle.lowering.proofs.Naming.{naming-is}
-use Rattle.lowering.proofs.Spanning.{span-inside, label-length}
+use Rattle.lowering.proofs.ids.Spans.{naming-is}
+use Rattle.lowering.proofs.ids.Six.{span-inside, label-length}
 
 -- ---- an entry by its record
 

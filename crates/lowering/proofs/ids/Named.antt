@@ -21,10 +21,10 @@ use Rattle.lowering.specs.Rows.{Naming, whole, part, center, namingOf, N
 use Rattle.lowering.specs.Offsets.{componentAt}
 use Rattle.lowering.specs.Demand.{Declares}
 use Rattle.ground.proofs.Pieces.{Each, each-left, each-right, each-both, each-map}
-use Rattle.lowering.proofs.Counts.{length-shape}
-use Rattle.lowering.proofs.Fine.{Fine, NoDot, Behind, plain-no-dot, plain-name, same-stem}
-use Rattle.lowering.proofs.Around.{Around, around-fine, Other, each-slot, each-of-all, own-label}
-use Rattle.lowering.proofs.Ids.{ids-all, ids-middle, ids-same}
+use Rattle.lowering.proofs.drawing.Counts.{length-shape}
+use Rattle.lowering.proofs.drawing.Fine.{Fine, NoDot, Behind, plain-no-dot, plain-name, same-stem}
+use Rattle.lowering.proofs.slots.Around.{Around, around-fine, Other, each-slot, each-of-all, own-label}
+use Rattle.lowering.proofs.ids.Tested.{ids-all, ids-middle, ids-same}
 
 -- the test of a name says that it names
 pub says-names : (n : Naming) (third : ℕ) (l : Label) (s : Slot) → Says (names n third l s) (Names n third l s)

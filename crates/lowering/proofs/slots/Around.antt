@@ -15,8 +15,8 @@ use Rattle.lowering.specs.Slots.{Slot, slotsOfShape, labelsOf, slotsOf, 
 use Rattle.lowering.specs.Demand.{Declares}
 use Rattle.ground.proofs.Pieces.{Each, each-append, each-flat, flat-append, picks-around, picks-each}
 use Rattle.index.proofs.Laws.{within-one}
-use Rattle.lowering.proofs.Counts.{labels-pick, labels-before, labels-all, length-of}
-use Rattle.lowering.proofs.Fine.{Once, Fine, declaration}
+use Rattle.lowering.proofs.drawing.Counts.{labels-pick, labels-before, labels-all, length-of}
+use Rattle.lowering.proofs.drawing.Fine.{Once, Fine, declaration}
 
 -- ---- what holds of each declared shape's label holds of each slot's
 

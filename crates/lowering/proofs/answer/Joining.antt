@@ -19,8 +19,8 @@ use Rattle.drawing.proofs.Laws.{count-kinds}
 use Rattle.lowering.specs.Slots.{slots, layoutOf}
 use Rattle.lowering.specs.Lower.{onto}
 use Rattle.lowering.specs.Steps.{laid, rowsBelow, RowTables, Writable, Slotted, Passing, Filled}
-use Rattle.lowering.proofs.Pushing.{laid-is}
-use Rattle.lowering.proofs.Tied.{writable, rows-are}
+use Rattle.lowering.proofs.slots.Pushes.{laid-is}
+use Rattle.lowering.proofs.rows.Tied.{writable, rows-are}
 
 -- ---- tables
 

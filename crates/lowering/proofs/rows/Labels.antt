@@ -29,9 +29,9 @@ use Rattle.lowering.specs.Rows.{whole, part, center, namingOf, names, na
 use Rattle.lowering.specs.Offsets.{componentAt, widthOf, idsAt, idsOfKind}
 use Rattle.lowering.specs.Demand.{slotAt, Declares, Carries}
 use Rattle.ground.proofs.Pieces.{sum-to, sum-flat}
-use Rattle.lowering.proofs.Fine.{Fine}
-use Rattle.lowering.proofs.Ids.{ids-named, ids-has, ids-rise}
-use Rattle.lowering.proofs.Named.{says-names, PairPart, the-point, circle-center, arc-center, XY, whole-ids, part-ids, center-ids}
+use Rattle.lowering.proofs.drawing.Fine.{Fine}
+use Rattle.lowering.proofs.ids.Tested.{ids-named, ids-has, ids-rise}
+use Rattle.lowering.proofs.ids.Named.{says-names, PairPart, the-point, circle-center, arc-center, XY, whole-ids, part-ids, center-ids}
 
 -- ---- what the table needs
 

@@ -28,8 +28,8 @@ use Rattle.lowering.specs.Lower.{onto}
 use Rattle.lowering.specs.Steps.{pairFor, circleFor, arcFor, shapeFor, shapeOf, pushedAt, pushedBelow, stage, laid, Passing}
 use Rattle.ground.proofs.Pieces.{picks-suc}
 use Rattle.index.proofs.Laws.{within-one}
-use Rattle.lowering.proofs.Counts.{labels-pick, labels-all, count-le, length-slots}
-use Rattle.lowering.proofs.Values.{length-values, values-parts}
+use Rattle.lowering.proofs.drawing.Counts.{labels-pick, labels-all, count-le, length-slots}
+use Rattle.lowering.proofs.slots.Values.{length-values, values-parts}
 
 -- ---- runs
 

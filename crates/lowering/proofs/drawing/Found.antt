@@ -15,7 +15,7 @@ use Rattle.drawing.specs.Needs.{Shape, point, circle, arc, declaring, Part, par
 use Rattle.lowering.specs.Slots.{guessOf}
 use Rattle.lowering.specs.Demand.{Declares}
 use Rattle.ground.proofs.Pieces.{Each, each-has}
-use Rattle.lowering.proofs.Fine.{Fine, same-record}
+use Rattle.lowering.proofs.drawing.Fine.{Fine, same-record}
 
 -- ---- a search that one place alone passes
 

@@ -41,13 +41,13 @@ use Rattle.lowering.specs.Offsets.{componentAt}
 use Rattle.lowering.specs.Demand.{Declares}
 use Rattle.lowering.specs.Steps.{shapeNo, sizeBy, centerBy, axisAt, endsIn, centerSpan, spanOf, sixOf, spanIds, labelIds, rowIds, rowAt, rowIf, rowsBelow, Sayable, Writable, Passing}
 use Rattle.ground.proofs.Pieces.{Each, each-of}
-use Rattle.lowering.proofs.Counts.{before-inside, length-slots, possible}
-use Rattle.lowering.proofs.Fine.{Fine, fine, declaration, NoDot, plain-no-dot, plain-name}
-use Rattle.lowering.proofs.Places.{slot-of}
-use Rattle.lowering.proofs.Found.{declared-found}
-use Rattle.lowering.proofs.Named.{PairPart, the-point, circle-center, arc-a, arc-b, arc-center, XY, part-ids}
-use Rattle.lowering.proofs.Rows.{WorkedOut, all-slots, of-part, of-center, worked-out, label-count, ids-few}
-use Rattle.lowering.proofs.Bytes.{rows-more, rows-end, length-rows}
+use Rattle.lowering.proofs.drawing.Counts.{before-inside, length-slots, possible}
+use Rattle.lowering.proofs.drawing.Fine.{Fine, fine, declaration, NoDot, plain-no-dot, plain-name}
+use Rattle.lowering.proofs.slots.Components.{slot-of}
+use Rattle.lowering.proofs.drawing.Found.{declared-found}
+use Rattle.lowering.proofs.ids.Named.{PairPart, the-point, circle-center, arc-a, arc-b, arc-center, XY, part-ids}
+use Rattle.lowering.proofs.rows.Labels.{WorkedOut, all-slots, of-part, of-center, worked-out, label-count, ids-few}
+use Rattle.lowering.proofs.rows.Bytes.{rows-more, rows-end, length-rows}
 
 -- ---- lists
 

@@ -10,7 +10,7 @@ use Rattle.refusal.proofs.Says.{refuted}
 use Rattle.index.proofs.First.{put}
 use Rattle.drawing.specs.Check.{countBelow}
 use Rattle.index.proofs.Laws.{says-within}
-use Rattle.lowering.proofs.Counts.{count-le}
+use Rattle.lowering.proofs.drawing.Counts.{count-le}
 
 -- how many of the first i kinds are k
 abbrev pub countFor : (ℕ → ℕ) → ℕ → ℕ → ℕ

@@ -35,9 +35,9 @@ use Rattle.lowering.specs.Rows.{rulesOf, rowsOf}
 use Rattle.lowering.specs.Lower.{Room, Lack, few-ids, short-slices, short-rows, lackNumber, lacking, lackOf, lowerOf, onto, roomIn, Lowers}
 use Rattle.lowering.specs.Demand.{EnoughFor}
 use Rattle.lowering.specs.Steps.{Passing, Filled, lackTold}
-use Rattle.lowering.proofs.Counts.{count-le, rules-all, slot-count}
-use Rattle.lowering.proofs.Fine.{passed-with}
-use Rattle.lowering.proofs.Lacking.{lack-is, lower-good, lower-refused, lower-lacking}
+use Rattle.lowering.proofs.drawing.Counts.{count-le, rules-all, slot-count}
+use Rattle.lowering.proofs.drawing.Fine.{passed-with}
+use Rattle.lowering.proofs.answer.Lacking.{lack-is, lower-good, lower-refused, lower-lacking}
 
 -- ---- what is lent, by the answer
 

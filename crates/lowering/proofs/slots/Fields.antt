@@ -18,9 +18,9 @@ use Rattle.lowering.specs.Slots.{Slot, slotsOfShape, slots, size, before
 use Rattle.lowering.specs.Fields.{fieldOf}
 use Rattle.lowering.specs.Demand.{noSlot, slotAt, Declares, ComponentOf, HandsBack, ReadAs, ReadOut}
 use Rattle.ground.proofs.Pieces.{getD-map}
-use Rattle.lowering.proofs.Counts.{before-inside, length-shape, length-slots, possible}
-use Rattle.lowering.proofs.Fine.{Fine}
-use Rattle.lowering.proofs.Places.{slot-of, place-is}
+use Rattle.lowering.proofs.drawing.Counts.{before-inside, length-shape, length-slots, possible}
+use Rattle.lowering.proofs.drawing.Fine.{Fine}
+use Rattle.lowering.proofs.slots.Components.{slot-of, place-is}
 
 -- ---- the fields of a shape, in the order of its components' names
 

@@ -19,10 +19,10 @@ use Rattle.lowering.specs.Rows.{namingOf, names, namedIds, rowFor, rules
 use Rattle.lowering.specs.Demand.{RowOf, rulesBefore}
 use Rattle.ground.proofs.Pieces.{Each, each-map, each-at, each-of, each-flat, flat-append, length-flat, piece-at, getD-map, picks-suc, picks-around}
 use Rattle.index.proofs.Laws.{says-within}
-use Rattle.lowering.proofs.Counts.{rules-pick, rules-before, picks-inside}
-use Rattle.lowering.proofs.Ids.{ids-within}
-use Rattle.lowering.proofs.Fine.{Fine}
-use Rattle.lowering.proofs.Rows.{ids-few, carries}
+use Rattle.lowering.proofs.drawing.Counts.{rules-pick, rules-before, picks-inside}
+use Rattle.lowering.proofs.ids.Tested.{ids-within}
+use Rattle.lowering.proofs.drawing.Fine.{Fine}
+use Rattle.lowering.proofs.rows.Labels.{ids-few, carries}
 
 -- ---- the rules
 

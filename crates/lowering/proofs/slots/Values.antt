@@ -14,10 +14,10 @@ use Rattle.drawing.specs.Needs.{Shape, point, circle, arc, Part, parts}
 use Rattle.lowering.specs.Slots.{Slot, slot, x-axis, y-axis, no-axis, slotsOfPart, slotsOfShape, slotsOf, slots, numberFor, startOf, valuesOf}
 use Rattle.lowering.specs.Demand.{noSlot, slotAt, Starts}
 use Rattle.ground.proofs.Pieces.{Each, each-at, each-flat, each-mem, getD-map}
-use Rattle.lowering.proofs.Counts.{length-shape}
-use Rattle.lowering.proofs.Fine.{Fine}
-use Rattle.lowering.proofs.Found.{guess-kind, guess-of}
-use Rattle.lowering.proofs.Places.{component-at, label-of}
+use Rattle.lowering.proofs.drawing.Counts.{length-shape}
+use Rattle.lowering.proofs.drawing.Fine.{Fine}
+use Rattle.lowering.proofs.drawing.Found.{guess-kind, guess-of}
+use Rattle.lowering.proofs.slots.Components.{component-at, label-of}
 
 -- ---- a slot belongs to a part
 

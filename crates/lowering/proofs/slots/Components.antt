@@ -15,9 +15,9 @@ use Rattle.lowering.specs.Slots.{Slot, slotsOfShape, slots, size, firstS
 use Rattle.lowering.specs.Offsets.{componentAt}
 use Rattle.lowering.specs.Demand.{noSlot, slotAt, Declares, ComponentOf, OneComponent}
 use Rattle.ground.proofs.Pieces.{Each, each-of, each-at}
-use Rattle.lowering.proofs.Counts.{length-shape}
-use Rattle.lowering.proofs.Fine.{Fine, same-shape, same-record}
-use Rattle.lowering.proofs.Around.{around-fine, each-slot, each-of-all, own-label}
+use Rattle.lowering.proofs.drawing.Counts.{length-shape}
+use Rattle.lowering.proofs.drawing.Fine.{Fine, same-shape, same-record}
+use Rattle.lowering.proofs.slots.Around.{around-fine, each-slot, each-of-all, own-label}
 
 -- ---- each slot is a component of a declared shape
 

@@ -1,0 +1,4 @@
+-- What lowering answers, and what is lent after it.
+pub mod Lacking
+pub mod Ends
+pub mod Joining

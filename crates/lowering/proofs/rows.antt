@@ -1,0 +1,5 @@
+-- The rows of the rules.
+pub mod Labels
+pub mod Bytes
+pub mod Filling
+pub mod Tied
