@@ -1,10 +1,9 @@
 -- What is told of a lowering with room enough is what is due of the page's drawing: slot by slot and row by row, from what was written. Assumes nothing.
 use mathlib.Core.Path.{_≡_, refl, sym, ap, _∙_}
-use mathlib.Core.List.{List, [], map, append-nil}
+use mathlib.Core.List.{List, map}
 use Prim.Native.Nat.{ℕ, _+_, _*_, _/_, _^_, _≤_, _<_}
-use native.Mathlib.Decide.{decLt}
 use native.Mathlib.Omega.{arith}
-use lib.ListN.{length, getD, take, drop, replicate, length-map, length-take, length-replicate, List·getD-eq-default}
+use lib.ListN.{length, getD, take, drop, replicate, length-map, length-take, length-replicate}
 use lib.Ieee.{Float, nan, binary64, ofBits}
 use lib.Seq.{take-at}
 use Rattle.refusal.specs.First.{Answer, passed, refused}
@@ -13,7 +12,6 @@ use Rattle.layout.specs.Push.{onward}
 use Rattle.layout.proofs.Onward.{length-onward, getD-onward}
 use Rattle.refusal.specs.declared.Refusal.{Refusal}
 use Rattle.refusal.specs.Refusal.{refusal}
-use Rattle.record.specs.Kinds.{firstRule, lastRule}
 use Rattle.record.specs.Record.{mostRecords, longestText}
 use Rattle.record.specs.Decode.{noRecord}
 use Rattle.record.specs.Entry.{Entry, noEntry, entryAt, upTo, entryOf}
@@ -21,24 +19,21 @@ use Rattle.record.specs.Formed.{entries}
 use Rattle.record.proofs.UpTo.{up-to-same, up-to-map}
 use Rattle.reader.specs.Page.{recordsIn, linesOf}
 use Rattle.reader.proofs.Written.{written-fits}
-use Rattle.index.specs.Labels.{kindNo}
 use Rattle.drawing.specs.Faults.{Fault, numberOf}
 use Rattle.drawing.specs.Check.{checkOf}
 use Rattle.lowering.specs.declared.Lowered.{Lowered}
 use Rattle.lowering.specs.declared.Lowered.the-variants as L
 use Rattle.lowering.specs.Slots.{slots, layoutOf, valuesOf}
-use Rattle.row.specs.Row.{Row, rowBytes, encodeRow, encodeRows, decodeRow, rowOf, RowFits}
-use Rattle.lowering.specs.Rows.{rowFor, rulesOf, rowsOf}
+use Rattle.row.specs.Row.{Row, rowBytes, encodeRows, decodeRow, rowOf, RowFits}
+use Rattle.lowering.specs.Rows.{rulesOf, rowsOf}
 use Rattle.lowering.specs.Lower.{Room, roomIn, lowerOf, Lowers}
 use Rattle.lowering.specs.Demand.{Enough}
-use Rattle.row.proofs.Back.{length-row}
-use Rattle.lowering.proofs.rows.Bytes.{ids-given, count-rows}
-use Rattle.index.proofs.Laws.{says-within}
-use Rattle.lowering.proofs.drawing.Counts.{rules-pick}
-use Rattle.lowering.proofs.drawing.Fine.{Fine, fine}
+use Rattle.row.proofs.Back.{noRow, rows-length, rows-count, row-no}
+use Rattle.lowering.proofs.rows.Bytes.{count-rows}
+use Rattle.lowering.proofs.rows.Formed.{rows-fit}
+use Rattle.lowering.proofs.drawing.Fine.{fine}
 use Rattle.lowering.proofs.answer.Lacking.{lower-good, lower-refused}
-use Rattle.ground.proofs.Pieces.{Each, each-map, each-at, length-flat, piece-at, getD-map, map-each, picks-each}
-use Rattle.lowering.proofs.rows.Labels.{ids-few}
+use Rattle.ground.proofs.Pieces.{Each, each-at, getD-map}
 use Rattle.lowering.proofs.slots.Values.{length-values}
 use Rattle.lines.specs.Drawn.{loweredLine, slotLine, rowLine}
 use Rattle.lines.proofs.RowBack.{row-printed}
@@ -48,56 +43,20 @@ use Rattle.answers.proofs.Room.{slots-most, rules-most, enough}
 
 -- ---- rows
 
--- what stands past the last row
-abbrev noRow : Row
-noRow = record { kind = 0; third = 0; ids = []; bits = 0 }
-
 -- the lines of rows that fit their bytes, from those bytes
 module _ (rs : List Row) (fit : Each RowFits rs) where
-  sizes : Each (λ (r : Row). length (encodeRow r) ≡ rowBytes) rs
-  sizes = each-map RowFits (λ (r : Row). length (encodeRow r) ≡ rowBytes) (λ r h. length-row r) rs fit
-
-  pub rows-length : length (encodeRows rs) ≡ length rs * rowBytes
-  rows-length = length-flat encodeRow rowBytes rs sizes
-
-  rows-count : length (encodeRows rs) / rowBytes ≡ length rs
-  rows-count = omega (arith, rows-length)
-
   row-shown : (k : ℕ) → k < length rs → rowLine (decodeRow (rowOf (encodeRows rs) k)) ≡ rowLine (getD rs k noRow)
-  row-shown k h =
-      row-printed (getD rs k noRow) (each-at RowFits rs noRow fit k h) (encodeRows rs) k (omega (arith, h, rows-count))
-      (rw append-nil at (piece-at encodeRow rowBytes rs [] noRow sizes k h))
+  row-shown k h = row-printed (getD rs k noRow) (each-at RowFits rs noRow fit k h) (encodeRows rs) k (omega (arith, h, rows-count rs)) (row-no rs k h)
 
   pub rows-shown : upTo (length (encodeRows rs) / rowBytes) (λ k. rowLine (decodeRow (rowOf (encodeRows rs) k))) ≡ map rowLine rs
-  rows-shown = rw rows-count (up-to-same (length rs) (λ k. rowLine (decodeRow (rowOf (encodeRows rs) k))) (λ k. rowLine (getD rs k noRow)) row-shown ∙ up-to-map rs noRow rowLine)
+  rows-shown = rw (rows-count rs) (up-to-same (length rs) (λ k. rowLine (decodeRow (rowOf (encodeRows rs) k))) (λ k. rowLine (getD rs k noRow)) row-shown ∙ up-to-map rs noRow rowLine)
 
--- the rows of a page's drawing fit their bytes
-module _ (s : List ℕ) (short : length s ≤ longestText) (w : Fine (linesOf s)) (left : length (slots (linesOf s)) ≤ 10800) where
-  bits-fit : (i : ℕ) → i < length (linesOf s) → entryAt (linesOf s) i .x < 2 ^ 64
-  unfolding entryOf
-  bits-fit i h =
-      let b : i < length (recordsIn s) = omega (arith, h, length-map (recordsIn s) (entryOf s)) in
-      rw (getD-map (entryOf s) (recordsIn s) i noRecord noEntry b) (written-fits s short noRecord i b .x-fits)
-
-  id-fits : (e : Entry) (q : ℕ) → getD (rowFor (linesOf s) 0 e .ids) q 0 < 2 ^ 32
-  id-fits e q =
-      let ids = rowFor (linesOf s) 0 e .ids in
-      elim (decLt q (length ids)) [
-        | yes b ↦ omega (arith, each-at _ ids 0 (ids-given (linesOf s) 0 e (omega (arith, left))) q b)
-        | no f ↦ omega (arith, List·getD-eq-default ids 0 {n = q} (omega (arith, f)))
-      ]
-
-  pub rows-fit : Each RowFits (rowsOf (linesOf s) 0)
-  unfolding rowsOf
-  rows-fit =
-      map-each (rowFor (linesOf s) 0) RowFits (rulesOf (linesOf s))
-      (picks-each _ _ _ rules-pick (λ (e : Entry). RowFits (rowFor (linesOf s) 0 e)) (linesOf s) noEntry
-      (λ j g t.
-      record {
-        few = ids-few (linesOf s) w 0 j g (says-within firstRule lastRule (kindNo (linesOf s) j) .so t);
-        ids-fit = λ q. id-fits (entryAt (linesOf s) j) q;
-        bits-fit = bits-fit j g;
-      }))
+-- the number of each line of a page fits eight bytes
+x-fits : (s : List ℕ) → length s ≤ longestText → (i : ℕ) → i < length (linesOf s) → entryAt (linesOf s) i .x < 2 ^ 64
+unfolding entryOf
+x-fits s short i h =
+    let b : i < length (recordsIn s) = omega (arith, h, length-map (recordsIn s) (entryOf s)) in
+    rw (getD-map (entryOf s) (recordsIn s) i noRecord noEntry b) (written-fits s short noRecord i b .x-fits)
 
 -- ---- slots
 
@@ -181,10 +140,10 @@ module _ {s bs : List ℕ} (read : Read s bs) {told : Lowered} {ids : List ℕ} 
     count-most = omega (arith, count-is, rules-most (linesOf s) few)
 
     fits : Each RowFits (rowsOf (linesOf s) 0)
-    fits = rows-fit s (read .short) (fine (linesOf s) passes) (slots-most (linesOf s) few)
+    fits = rows-fit (linesOf s) (fine (linesOf s) passes) 0 (omega (arith, slots-most (linesOf s) few)) (x-fits s (read .short))
 
     written-length : length (encodeRows (rowsOf (linesOf s) 0)) ≡ count * rowBytes
-    written-length = omega (arith, rows-length (rowsOf (linesOf s) 0) fits, count-rows (linesOf s) 0, count-is)
+    written-length = omega (arith, rows-length (rowsOf (linesOf s) 0), count-rows (linesOf s) 0, count-is)
 
     -- what was written
     ids-taken : take next ids ≡ onward 0 (length (slots (linesOf s)))

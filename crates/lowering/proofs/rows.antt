@@ -2,4 +2,5 @@
 pub mod Labels
 pub mod Bytes
 pub mod Filling
+pub mod Formed
 pub mod Tied

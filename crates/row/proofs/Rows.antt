@@ -1,4 +1,4 @@
--- The test of rows says what their words say, and a loop over rows comes to it. Assumes nothing.
+-- The test of rows says what their words say, a loop over rows comes to it, and rows with well formed fields pass it. Assumes nothing.
 use mathlib.Core.Path.{_≡_, refl, sym, ap, _∙_}
 use mathlib.Core.Bool.{Bool, true, false}
 use mathlib.Core.List.{List, [], _∷_}
@@ -8,6 +8,7 @@ use native.Mathlib.Omega.{arith}
 use lib.ListN.{length, getD, drop, List·getD-eq-default}
 use lib.Seq.{getD-take, getD-drop}
 use borrow.Author.Tests.{lt-ltb, eq-eqb}
+use Rattle.ground.proofs.Pieces.{Each, each-at}
 use Rattle.refusal.specs.First.{allBelow, EachBelow}
 use Rattle.refusal.proofs.Says.{Says, says-iff, says-and, says-if, says-all, says-eq, says-le, says-lt, refuted, fails, says-so}
 use Rattle.bytes.specs.Little.{byte}
@@ -17,7 +18,8 @@ use Rattle.record.specs.Kinds.{table, cell, kindAt, needsColumn, firstRule, las
 use Rattle.record.specs.Record.{labelPlaces}
 use Rattle.record.proofs.Cells.{looked, needs-is}
 use Rattle.row.specs.declared.Row.{Row as Held}
-use Rattle.row.specs.Row.{rowBytes, rowMark, mostIds, rowNo, rowOf, heldIn}
+use Rattle.row.specs.Row.{Row, held, bytesOf, encodeRow, encodeRows, RowFits, rowBytes, rowMark, mostIds, rowNo, rowOf, heldIn}
+use Rattle.row.proofs.Back.{noRow, fields-back, rows-length, rows-count, row-no}
 use Rattle.row.specs.Formed.{idsFor, idsAt, idsOf, FieldsFormed, RowFormed, RowsFormed, fieldsTest, rowTest, rowsTest}
 
 -- ---- the ids of a kind
@@ -108,3 +110,17 @@ module _ (rows : List ℕ) where
     all-rows whole e f g =
         let all : length rows / rowBytes ≡ i = omega arith in
         sym (rw (eq-eqb (length rows % rowBytes) 0 whole, all) e)
+
+-- ---- rows that are written
+
+-- rows that fit their bytes and whose fields are well formed give well formed bytes
+pub written-formed : (rs : List Row) → Each (λ (r : Row). RowFits r × FieldsFormed (held r)) rs → RowsFormed (encodeRows rs)
+unfolding encodeRow bytesOf
+written-formed rs each =
+    record {
+      whole = omega (arith, rows-length rs);
+      each = λ i h.
+          let inside : i < length rs = omega (arith, h, rows-count rs) in
+          let r = each-at _ rs noRow each i inside in
+          rw (row-no rs i inside) (record { marked = refl; fields = rw (fields-back (getD rs i noRow) (r .0)) (r .1) });
+    }
