@@ -35,6 +35,5 @@ returns-2 : tie.Need-returns-2
 returns-2 c = rw (good-answer _ (c .before .before .before .before .before .before .before .before .before .read .ensures) (length-replicate {0} {A = ℕ} recordRoom 0) (c .before .before .before .before .before .before .reading .given .1)) (c .before .before .tell .ensures)
 
 pub answer-spec : {M : Type 1} → statement M
-answer-spec =
-    tie.close (tie.spec (λ c. search needs) (λ c κs. search needs) (λ c. search needs) (λ c. search needs) (λ c κs. search needs) (λ c. search needs) returns
-    add-n mul-n array-share-prefix-records slice-aggregate-tell tell-requires (λ c. search needs) returns-2)
+answer-spec = tie.close (tie.spec (λ c. search needs) (λ c κs. search needs) (λ c. search needs) (λ c. search needs) (λ c κs. search needs) (λ c. search needs) returns add-n mul-n array-share-prefix-records slice-aggregate-tell tell-requires
+    (λ c. search needs) returns-2)

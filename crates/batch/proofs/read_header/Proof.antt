@@ -30,4 +30,5 @@ unfolding headerOf
 returns-6 c = rw (← c .before .before .before .before .before .before .before .before .before .before .before .before .before .size-of .ensures, le-ltb _ _ (c .before .before .before .before .before .before .before .before .before .before .before .before .if1 .left), ← c .before .before .before .before .before .before .before .before .before .before .begins .ensures, c .before .before .before .before .before .before .before .before .before .if2 .left, ← c .before .before .before .before .before .before .before .begins2 .ensures, c .before .before .before .before .before .before .if3 .left, ← c .before .before .before .before .begins3 .ensures, c .before .before .before .if4 .left, ← c .before .begins4 .ensures, c .if5 .left)
 
 pub read-header-spec : {M : Type 1} → statement M
-read-header-spec = tie.close (tie.spec (λ c κs. search needs) returns (λ c. search needs) (λ c κs. search needs) returns-2 (λ c. search needs) (λ c κs. search needs) returns-3 (λ c. search needs) (λ c κs. search needs) returns-4 (λ c. search needs) (λ c κs. search needs) returns-5 returns-6)
+read-header-spec = tie.close (tie.spec (λ c κs. search needs) returns (λ c. search needs) (λ c κs. search needs) returns-2 (λ c. search needs) (λ c κs. search needs) returns-3 (λ c. search needs) (λ c κs. search needs) returns-4 (λ c. search needs)
+    (λ c κs. search needs) returns-5 returns-6)

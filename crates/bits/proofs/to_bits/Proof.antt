@@ -9,8 +9,5 @@ use Rattle.bits.proofs.to_bits.Tie as tie
 returns : tie.Need-returns
 returns c = sym (ap (toBits binary64) (differs (c .before .args .x) (c .if1 .taken)) ∙ written)
 
-float-to-bits-result : tie.Need-float-to-bits-result
-float-to-bits-result c = number (c .before .args .x) (c .if1 .left)
-
 pub to-bits-spec : {M : Type 1} → statement M
-to-bits-spec = tie.close (tie.spec returns float-to-bits-result (λ c. search needs))
+to-bits-spec = tie.close (tie.spec returns (λ c. number (c .before .args .x) (c .if1 .left)) (λ c. search needs))

@@ -16,6 +16,4 @@ returns-2 c =
     rw (← b .before .before .decode-row .ensures) (printed _ (b .row .ensures) (e .enum-told .given .1) (c .before .before .row2 .ensures))
 
 pub row-line-spec : {M : Type 1} → statement M
-row-line-spec =
-    tie.close (tie.spec (λ c κs. search needs) (λ c κs. search needs) (λ c. search needs) (λ c. search needs) (λ c. search needs) returns
-    (λ c κs. search needs) (λ c. search needs) returns-2)
+row-line-spec = tie.close (tie.spec (λ c κs. search needs) (λ c κs. search needs) (λ c. search needs) (λ c. search needs) (λ c. search needs) returns (λ c κs. search needs) (λ c. search needs) returns-2)

@@ -4,11 +4,5 @@ use Rattle.print.proofs.Laws.{field-counts}
 use Rattle.numbers.proofs.put_decimal.Statement.{statement}
 use Rattle.numbers.proofs.put_decimal.Tie as tie
 
-array-share-prefix-bytes : tie.Need-array-share-prefix-bytes
-array-share-prefix-bytes c = field-counts _ _ (c .before .decimal .ensures) .0
-
-slice-aggregate-put : tie.Need-slice-aggregate-put
-slice-aggregate-put c = field-counts _ _ (c .before .before .decimal .ensures) .1
-
 pub put-decimal-spec : {M : Type 1} → statement M
-put-decimal-spec = tie.close (tie.spec (λ c κs. search needs) array-share-prefix-bytes slice-aggregate-put (λ c κs. search needs) (λ c. search needs))
+put-decimal-spec = tie.close (tie.spec (λ c κs. search needs) (λ c. field-counts _ _ (c .before .decimal .ensures) .0) (λ c. field-counts _ _ (c .before .before .decimal .ensures) .1) (λ c κs. search needs) (λ c. search needs))

@@ -5,8 +5,5 @@ use borrow.Author.Needs.{needs}
 use Rattle.replay.proofs.read_text.Statement.{statement}
 use Rattle.replay.proofs.read_text.Tie as tie
 
-slice-aggregate-read-full : tie.Need-slice-aggregate-read-full
-slice-aggregate-read-full c = sym (length-take-le _ _ (search needs))
-
 pub read-text-spec : {M : Type 1} → statement M
-read-text-spec = tie.close (tie.spec (λ c. search needs) slice-aggregate-read-full (λ c κs. search needs) (λ c. search needs) (λ c. search needs))
+read-text-spec = tie.close (tie.spec (λ c. search needs) (λ c. sym (length-take-le _ _ (search needs))) (λ c κs. search needs) (λ c. search needs) (λ c. search needs))

@@ -5,8 +5,6 @@ use borrow.Author.Needs.{needs}
 use Rattle.rooms.proofs.put_lowered.Statement.{statement}
 use Rattle.rooms.proofs.put_lowered.Tie as tie
 
-slice-aggregate-put : tie.Need-slice-aggregate-put
-slice-aggregate-put c = simp length-take (omega arith)
-
 pub put-lowered-spec : {M : Type 1} → statement M
-put-lowered-spec = tie.close (tie.spec (λ c κs. search needs) (λ c. search needs) (λ c. search needs) (λ c. search needs) (λ c. search needs) (λ c. search needs) (λ c. search needs) (λ c. search needs) slice-aggregate-put (λ c κs. search needs) (λ c. search needs) (λ c. search needs))
+put-lowered-spec = tie.close (tie.spec (λ c κs. search needs) (λ c. search needs) (λ c. search needs) (λ c. search needs) (λ c. search needs) (λ c. search needs) (λ c. search needs) (λ c. search needs) (λ c. simp length-take (omega arith))
+    (λ c κs. search needs) (λ c. search needs) (λ c. search needs))

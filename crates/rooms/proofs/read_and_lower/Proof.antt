@@ -5,8 +5,6 @@ use borrow.Author.Needs.{needs}
 use Rattle.rooms.proofs.read_and_lower.Statement.{statement}
 use Rattle.rooms.proofs.read_and_lower.Tie as tie
 
-slice-aggregate-lower : tie.Need-slice-aggregate-lower
-slice-aggregate-lower c = simp length-take (omega arith)
-
 pub read-and-lower-spec : {M : Type 1} → statement M
-read-and-lower-spec = tie.close (tie.spec (λ c κs. search needs) (λ c κs. search needs) (λ c κs. search needs) (λ c κs. search needs) (λ c. search needs) (λ c. search needs) (λ c. search needs) slice-aggregate-lower (λ c κs. search needs) (λ c. search needs) (λ c. search needs))
+read-and-lower-spec = tie.close (tie.spec (λ c κs. search needs) (λ c κs. search needs) (λ c κs. search needs) (λ c κs. search needs) (λ c. search needs) (λ c. search needs) (λ c. search needs) (λ c. simp length-take (omega arith)) (λ c κs. search needs)
+    (λ c. search needs) (λ c. search needs))

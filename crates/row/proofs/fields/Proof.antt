@@ -11,4 +11,5 @@ returns c =
     rw (c .before .before .before .before .before .before .before .before .u32-at .ensures, c .before .before .before .before .before .before .before .u32-at2 .ensures, c .before .before .before .before .before .before .u32-at3 .ensures, c .before .before .before .before .before .u32-at4 .ensures, c .before .before .before .before .u32-at5 .ensures, c .before .before .before .u32-at6 .ensures, c .before .before .u32-at7 .ensures, c .before .u32-at8 .ensures, c .bits-of .ensures) refl
 
 pub fields-spec : {M : Type 1} → statement M
-fields-spec = tie.close (tie.spec (λ c. search needs) (λ c. search needs) (λ c. search needs) (λ c κs. search needs) (λ c κs. search needs) (λ c κs. search needs) (λ c κs. search needs) (λ c κs. search needs) (λ c κs. search needs) (λ c κs. search needs) (λ c κs. search needs) (λ c κs. search needs) returns)
+fields-spec = tie.close (tie.spec (λ c. search needs) (λ c. search needs) (λ c. search needs) (λ c κs. search needs) (λ c κs. search needs) (λ c κs. search needs) (λ c κs. search needs) (λ c κs. search needs) (λ c κs. search needs) (λ c κs. search needs)
+    (λ c κs. search needs) (λ c κs. search needs) returns)

@@ -38,6 +38,4 @@ returns-3 c =
     rw (l .inv .0 ∙ pasted (a .buf .now) (a .at) (a .src .now) (l .i) (omega arith)) (put (a .buf .now) (a .at) (a .src .now) (omega arith))
 
 pub put-spec : {M : Type 1} → statement M
-put-spec =
-    tie.close (tie.spec Inv-loop μ-loop returns (λ c. search needs) returns-2 loop-holds (λ c. omega arith) (λ c. omega arith) (λ c. omega arith)
-    (λ c. omega arith) (λ c. omega arith) loop-again (λ c. omega arith) returns-3)
+put-spec = tie.close (tie.spec Inv-loop μ-loop returns (λ c. search needs) returns-2 loop-holds (λ c. omega arith) (λ c. omega arith) (λ c. omega arith) (λ c. omega arith) (λ c. omega arith) loop-again (λ c. omega arith) returns-3)

@@ -38,7 +38,5 @@ returns-2 : tie.Need-returns-2
 returns-2 c = rw (good-lines (c .before .before .before .before .before .before .before .before .before .before .before .before .before .before .before .before .before .before .before .before .pre) (c .before .before .before .before .before .before .before .before .before .before .before .before .before .lower .ensures) (c .before .before .before .before .before .before .before .before .told .given .1)) (c .before .before .print .ensures)
 
 pub rows-spec : {M : Type 1} → statement M
-rows-spec =
-    tie.close (tie.spec (λ c. search needs) (λ c. search needs) (λ c. search needs) (λ c κs. search needs) (λ c. search needs) (λ c. search needs)
-    (λ c κs. search needs) (λ c. search needs) returns (λ c. search needs) mul-bytes array-share-prefix-ids slice-aggregate-print array-share-prefix-values
-    slice-aggregate-print-2 array-share-prefix-rows slice-aggregate-print-3 print-requires (λ c. search needs) returns-2)
+rows-spec = tie.close (tie.spec (λ c. search needs) (λ c. search needs) (λ c. search needs) (λ c κs. search needs) (λ c. search needs) (λ c. search needs) (λ c κs. search needs) (λ c. search needs) returns (λ c. search needs) mul-bytes array-share-prefix-ids
+    slice-aggregate-print array-share-prefix-values slice-aggregate-print-2 array-share-prefix-rows slice-aggregate-print-3 print-requires (λ c. search needs) returns-2)

@@ -13,6 +13,4 @@ returns-2 c =
     (c .before .before .before .before .enum-told .given .1) (c .before .before .add2 .ensures)
 
 pub print-spec : {M : Type 1} → statement M
-print-spec =
-    tie.close (tie.spec (λ c κs. search needs) (λ c. search needs) (λ c. search needs) (λ c. search needs) returns (λ c κs. search needs)
-    (λ c. search needs) returns-2)
+print-spec = tie.close (tie.spec (λ c κs. search needs) (λ c. search needs) (λ c. search needs) (λ c. search needs) returns (λ c κs. search needs) (λ c. search needs) returns-2)

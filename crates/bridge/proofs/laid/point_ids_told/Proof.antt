@@ -4,6 +4,5 @@ use Rattle.bridge.proofs.laid.point_ids_told.Statement.{statement}
 use Rattle.bridge.proofs.laid.point_ids_told.Tie as tie
 
 pub point-ids-told-spec : {M : Type 1} → statement M
-point-ids-told-spec = tie.close (tie.spec (λ c. search needs) (λ c. search needs) (λ c. search needs) (λ c κs. search needs) (λ c. search needs)
-    (λ c κs. search needs) (λ c. rw (c .before .before .before .before .r .given .1, ← c .good2 .ensures))
+point-ids-told-spec = tie.close (tie.spec (λ c. search needs) (λ c. search needs) (λ c. search needs) (λ c κs. search needs) (λ c. search needs) (λ c κs. search needs) (λ c. rw (c .before .before .before .before .r .given .1, ← c .good2 .ensures))
     (λ c. rw (c .before .before .r2 .given .1, ← c .refused .ensures)))

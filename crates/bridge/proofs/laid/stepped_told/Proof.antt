@@ -4,6 +4,5 @@ use Rattle.bridge.proofs.laid.stepped_told.Statement.{statement}
 use Rattle.bridge.proofs.laid.stepped_told.Tie as tie
 
 pub stepped-told-spec : {M : Type 1} → statement M
-stepped-told-spec = tie.close (tie.spec (λ c. search needs) (λ c κs. search needs) (λ c κs. search needs) (λ c. search needs) (λ c κs. search needs)
-    (λ c. rw (c .before .before .before .r .given .1, ← c .before .layout-parts .ensures, ← c .good2 .ensures))
+stepped-told-spec = tie.close (tie.spec (λ c. search needs) (λ c κs. search needs) (λ c κs. search needs) (λ c. search needs) (λ c κs. search needs) (λ c. rw (c .before .before .before .r .given .1, ← c .before .layout-parts .ensures, ← c .good2 .ensures))
     (λ c. rw (c .before .before .r2 .given .1, ← c .refused .ensures)))

@@ -5,6 +5,5 @@ use Rattle.bridge.proofs.pages.hunposeto_lower.Statement.{statement}
 use Rattle.bridge.proofs.pages.hunposeto_lower.Tie as tie
 
 pub hunposeto-lower-spec : {M : Type 1} → statement M
-hunposeto-lower-spec = tie.close (tie.spec (λ c κs. search needs) (λ c κs. search needs) (λ c κs. search needs) (λ c. search needs)
-    (λ c. search needs) (λ c. search needs)
+hunposeto-lower-spec = tie.close (tie.spec (λ c κs. search needs) (λ c κs. search needs) (λ c κs. search needs) (λ c. search needs) (λ c. search needs) (λ c. search needs)
     (λ c. record { answer = _; promised = c .before .before .before .before .before .before .before .before .before .lower .ensures; is = c .tell .ensures ∙ c .before .before .lowered-told .ensures }))

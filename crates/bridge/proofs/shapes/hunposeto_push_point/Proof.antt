@@ -5,6 +5,5 @@ use Rattle.bridge.proofs.shapes.hunposeto_push_point.Statement.{stateme
 use Rattle.bridge.proofs.shapes.hunposeto_push_point.Tie as tie
 
 pub hunposeto-push-point-spec : {M : Type 1} → statement M
-hunposeto-push-point-spec = tie.close (tie.spec (λ c κs. search needs) (λ c κs. search needs) (λ c κs. search needs) (λ c κs. search needs)
-    (λ c. search needs) (λ c. search needs)
+hunposeto-push-point-spec = tie.close (tie.spec (λ c κs. search needs) (λ c κs. search needs) (λ c κs. search needs) (λ c κs. search needs) (λ c. search needs) (λ c. search needs)
     (λ c. record { answer = c .before .before .before .before .before .before .before .push-point .result; promised = rw (← c .before .before .before .before .before .before .before .before .before .before .layout-by .ensures) (c .before .before .before .before .before .before .before .push-point .ensures); is = c .tell .ensures ∙ c .before .before .pushed-told .ensures }))

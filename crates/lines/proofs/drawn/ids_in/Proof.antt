@@ -4,11 +4,5 @@ use borrow.Author.Tests.{lt-ltb, le-ltb}
 use Rattle.lines.proofs.drawn.ids_in.Statement.{statement}
 use Rattle.lines.proofs.drawn.ids_in.Tie as tie
 
-returns : tie.Need-returns
-returns c = rw (lt-ltb _ _ (c .if1 .taken))
-
-returns-2 : tie.Need-returns-2
-returns-2 c = rw (le-ltb _ _ (c .if1 .left))
-
 pub ids-in-spec : {M : Type 1} → statement M
-ids-in-spec = tie.close (tie.spec (λ c. search needs) returns returns-2)
+ids-in-spec = tie.close (tie.spec (λ c. search needs) (λ c. rw (lt-ltb _ _ (c .if1 .taken))) (λ c. rw (le-ltb _ _ (c .if1 .left))))

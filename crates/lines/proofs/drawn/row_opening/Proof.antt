@@ -34,12 +34,6 @@ loop-holds c = (omega arith, refl, λ d p a x. said x (sym (append-nil a)))
 few : (c : tie.In-loop Inv-loop μ-loop) → c .before .loop .q < mostIds
 few c = omega (arith, c .loop-test .taken, c .before .before .ids-in .ensures, ids-most (c .before .before .before .before .before .before .before .before .before .before .args .r))
 
-mul-id-word : tie.Need-mul-id-word Inv-loop μ-loop
-mul-id-word c = omega (arith, few c)
-
-array-read-id-word : tie.Need-array-read-id-word Inv-loop μ-loop
-array-read-id-word c = few c
-
 loop-again : tie.Need-loop-again Inv-loop μ-loop
 loop-again c =
     let ids = c .before .before .before .before .before .before .before .before .before .before .before .before .before .before .args .r .ids in
@@ -54,6 +48,5 @@ returns c =
     said (l .inv .2 _ _ _ (added (c .before .before .before .before .before .decimal .ensures))) (rw e)
 
 pub row-opening-spec : {M : Type 1} → statement M
-row-opening-spec =
-    tie.close (tie.spec Inv-loop μ-loop (λ c. search needs) (λ c κs. search needs) (λ c κs. search needs) loop-holds mul-id-word array-read-id-word
-    (λ c κs. search needs) (λ c. omega arith) (λ c. omega arith) loop-again (λ c. search needs) returns)
+row-opening-spec = tie.close (tie.spec Inv-loop μ-loop (λ c. search needs) (λ c κs. search needs) (λ c κs. search needs) loop-holds (λ c. omega (arith, few c)) (λ c. few c) (λ c κs. search needs) (λ c. omega arith) (λ c. omega arith) loop-again
+    (λ c. search needs) returns)

@@ -11,4 +11,5 @@ returns c =
     said (both (both (both (both (both (added (c .before .before .before .before .before .before .before .before .before .before .before .before .before .before .before .before .before .before .before .before .before .before .before .before .before .before .add .ensures)) (c .before .before .before .before .before .before .before .before .before .before .before .before .before .before .before .before .before .before .before .before .before .counted .ensures)) (c .before .before .before .before .before .before .before .before .before .before .before .before .before .before .before .before .counted2 .ensures)) (c .before .before .before .before .before .before .before .before .before .before .before .counted3 .ensures)) (c .before .before .before .before .before .before .before .counted4 .ensures)) (added (c .before .before .add2 .ensures))) (tally-is (a .name .now) (a .points) (a .circles) (a .arcs) (a .last .now) (a .n))
 
 pub tally-line-spec : {M : Type 1} → statement M
-tally-line-spec = tie.close (tie.spec (λ c κs. search needs) (λ c. search needs) (λ c κs. search needs) (λ c. search needs) (λ c κs. search needs) (λ c. search needs) (λ c κs. search needs) (λ c κs. search needs) (λ c. search needs) (λ c κs. search needs) (λ c. search needs) returns)
+tally-line-spec = tie.close (tie.spec (λ c κs. search needs) (λ c. search needs) (λ c κs. search needs) (λ c. search needs) (λ c κs. search needs) (λ c. search needs) (λ c κs. search needs) (λ c κs. search needs) (λ c. search needs) (λ c κs. search needs)
+    (λ c. search needs) returns)

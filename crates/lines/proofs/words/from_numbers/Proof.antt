@@ -19,4 +19,5 @@ returns-3 c =
     said (both (added (c .before .before .before .before .before .before .before .before .hex-word .ensures)) (added (c .before .before .add3 .ensures))) (one-number (a .number) (a .x) (a .y) (c .before .before .before .before .before .before .before .before .before .before .if1 .left) (c .before .before .before .before .before .if2 .left))
 
 pub from-numbers-spec : {M : Type 1} → statement M
-from-numbers-spec = tie.close (tie.spec (λ c. search needs) (λ c κs. search needs) (λ c. search needs) returns (λ c κs. search needs) (λ c κs. search needs) (λ c. search needs) (λ c κs. search needs) (λ c. search needs) returns-2 (λ c. search needs) (λ c κs. search needs) (λ c. search needs) returns-3)
+from-numbers-spec = tie.close (tie.spec (λ c. search needs) (λ c κs. search needs) (λ c. search needs) returns (λ c κs. search needs) (λ c κs. search needs) (λ c. search needs) (λ c κs. search needs) (λ c. search needs) returns-2 (λ c. search needs)
+    (λ c κs. search needs) (λ c. search needs) returns-3)
