@@ -10,28 +10,16 @@ use Rattle.text.specs.declared.Stand.{Stand}
 use Rattle.text.specs.declared.Stand.the-variants.{At, Nothing, Refused}
 use Rattle.text.specs.declared.Label.{Label}
 use Rattle.text.proofs.Stand.{the-type}
-use Rattle.text.proofs.Laws.{handed}
+use Rattle.text.proofs.Laws.{handed, Reached, here, from-of}
 use Rattle.text.proofs.Within.{Within, ws-within, word-within, byte-within, label-within}
 use Rattle.number.specs.Number.{noNumber, numberAt, depth, exprAt, numberOn, exprOn}
 use Rattle.number.specs.declared.Number.{Number}
-use Rattle.number.proofs.Within.{number-within, expr-within}
+use Rattle.number.proofs.Within.{number-read, expr-read}
 use Rattle.record.specs.declared.Record.{Record}
 use Rattle.forms.specs.Forms.{lineOf, noLine}
 use Rattle.forms.proofs.Kept.{Kept}
 
 -- ---- a place
-
-abbrev pub Place : Stand → Type 0
-Place (At n) = Unit {0}
-Place Nothing = ⊥
-Place (Refused why) = ⊥
-
--- reading stands at a place
-pub record Reached (t : Stand) : Type 0 where
-  pub is : Place t
-
-pub here : (n : ℕ) → Reached (At n)
-here n = record { is = tt }
 
 -- u is a place only where t is one
 pub record Behind (t u : Stand) : Type 0 where
@@ -42,21 +30,19 @@ same t = record { back = λ h. h }
 
 -- what is read from a place on, or what is handed on
 rail-behind : {X : Type 0} (then : X → Stand) (t u : Stand) (rest : X) (read : ℕ → X) → Behind t u → Behind t (then rest) → Behind t (then (from u rest read))
-rail-behind then t (At n) rest read f g = record { back = λ h. f .back (here n) }
-rail-behind then t Nothing rest read f g = g
-rail-behind then t (Refused why) rest read f g = g
+rail-behind then t u rest read f g = from-of (λ x. Behind t (then x)) u rest read g (λ n e. record { back = λ h. f .back (rw e (here n)) })
 
 pub kept-behind : (s : List ℕ) (t : Stand) → Kept s (Behind t)
 unfolding wsOn wordOn byteOn labelOn numberOn exprOn
 kept-behind s t =
     record {
       nothing = record { back = λ h. absurd (h .is) };
-      ws = λ {t = u} f. rail-behind (λ v. v) t u u (λ at. At (spacesTo s at)) f f;
-      word = λ {t = u} w f. rail-behind (λ v. v) t u u (wordAt s w) f f;
-      byte = λ {t = u} b f. rail-behind (λ v. v) t u u (wordAt s (b ∷ [])) f f;
-      label = λ {t = u} f. rail-behind (λ (l : Label). l .then) t u (noLabel u) (labelAt s) f f;
-      number = λ {t = u} f. rail-behind (λ (n : Number). n .then) t u (noNumber u) (numberAt s) f f;
-      expr = λ {t = u} f. rail-behind (λ (n : Number). n .then) t u (noNumber u) (exprAt depth s) f f;
+      ws = λ {t = u} f. rail-behind (λ v. v) t u u _ f f;
+      word = λ {t = u} w f. rail-behind (λ v. v) t u u _ f f;
+      byte = λ {t = u} b f. rail-behind (λ v. v) t u u _ f f;
+      label = λ {t = u} f. rail-behind (λ (l : Label). l .then) t u (noLabel u) _ f f;
+      number = λ {t = u} f. rail-behind (λ (n : Number). n .then) t u (noNumber u) _ f f;
+      expr = λ {t = u} f. rail-behind (λ (n : Number). n .then) t u (noNumber u) _ f f;
     }
 
 -- what is due at a place stands at one only where it was read
@@ -81,8 +67,8 @@ kept-in s p =
       word = λ {t} w h. record { is = word-within s p w t (h .is) };
       byte = λ {t} b h. record { is = byte-within s p b t (h .is) };
       label = λ {t} h. record { is = label-within s p t (h .is) };
-      number = λ {t} h. record { is = number-within s p t (h .is) };
-      expr = λ {t} h. record { is = expr-within s p t (h .is) };
+      number = λ {t} h. record { is = number-read s t .within p (h .is) };
+      expr = λ {t} h. record { is = expr-read s t .within p (h .is) };
     }
 
 -- ---- nothing read

@@ -1,29 +1,24 @@
 -- Each record of a page is sound over the text, and a page that is read to its end has an instruction and a guess. Assumes nothing.
 use mathlib.Core.Bool.{Bool, true, false}
-use mathlib.Core.List.{List, [], _∷_}
-use Prim.Native.Nat.{ℕ, zero, suc, _+_, _-_, _≤_, _<_}
+use mathlib.Core.List.{List}
+use Prim.Native.Nat.{ℕ, _+_, _-_, _≤_, _<_}
 use mathlib.Core.Path.{_≡_}
-use native.Mathlib.Nat.{not-suc-le-zero}
 use native.Mathlib.Omega.{arith}
 use native.Mathlib.Decide.{decLt}
 use lib.ListN.{length, getD, length-append, List·getD-append}
 use lib.Seq.{getD-append-add}
 use Rattle.ground.specs.Words.{bytes}
+use Rattle.ground.proofs.Pieces.{Each, each-at}
 use Rattle.text.specs.Text.{due, wsOn, newlineOn}
 use Rattle.text.specs.declared.Stand.{Stand}
 use Rattle.text.specs.declared.Stand.the-variants.{At}
+use Rattle.text.proofs.Laws.{Reached, either-of}
 use Rattle.record.specs.Decode.{noRecord}
 use Rattle.forms.specs.Section.{linesOn}
-use Rattle.forms.proofs.Kept.{either-of}
-use Rattle.forms.proofs.Stands.{Reached, Behind, same, kept-behind, due-behind}
-use Rattle.forms.proofs.SoundLines.{Each, Proper}
+use Rattle.forms.proofs.Stands.{Behind, same, kept-behind, due-behind}
+use Rattle.forms.proofs.SoundLines.{Proper}
 use Rattle.forms.proofs.SoundSection.{lines-due}
 use Rattle.reader.specs.Page.{headingOn, optNewlineOn, problemOf, recordsIn}
-
-each-at : {A : Type 0} (P : A → Type 0) (l : List A) (d : A) (i : ℕ) → Each P l → i < length l → P (getD l i d)
-each-at P [] d i f h = absurd (not-suc-le-zero h)
-each-at P (x ∷ l) d zero f h = f .0
-each-at P (x ∷ l) d (suc i) f h = each-at P l d i (f .1) (omega arith)
 
 -- ---- headings
 
@@ -71,7 +66,7 @@ module _ (s : List ℕ) where
   pub instruction-at : (i : ℕ) → i < length (problemOf s .instructions) → Proper s false (getD (recordsIn s) i noRecord)
   instruction-at i h =
       rw (List·getD-append (problemOf s .instructions) (problemOf s .guesses) noRecord i h)
-      (each-at (Proper s false) (problemOf s .instructions) noRecord i instructions-proper h)
+      (each-at (Proper s false) (problemOf s .instructions) noRecord instructions-proper i h)
 
   pub guess-at : (i : ℕ) → length (problemOf s .instructions) ≤ i → i < length (recordsIn s) → Proper s true (getD (recordsIn s) i noRecord)
   guess-at i h k =
@@ -79,7 +74,7 @@ module _ (s : List ℕ) where
       let e : i ≡ n + (i - n) = omega arith in
       let b : i - n < length (problemOf s .guesses) = omega (arith, h, k, length-append (problemOf s .instructions) (problemOf s .guesses)) in
       rw (e, getD-append-add (problemOf s .instructions) (problemOf s .guesses) (i - n) noRecord)
-      (each-at (Proper s true) (problemOf s .guesses) noRecord (i - n) guesses-proper b)
+      (each-at (Proper s true) (problemOf s .guesses) noRecord guesses-proper (i - n) b)
 
   -- each record is one or the other
   pub record-at : (i : ℕ) → i < length (recordsIn s) → (guess : Bool) × Proper s guess (getD (recordsIn s) i noRecord)

@@ -22,7 +22,7 @@ use Rattle.record.proofs.Entries.{whole-length}
 use Rattle.record.proofs.Told.{passed-iff}
 use Rattle.record.proofs.WellFormed.{well-formed-iff}
 use Rattle.record.proofs.Written.{good-written, entry-decoded}
-use Rattle.forms.proofs.Stands.{Reached, here}
+use Rattle.text.proofs.Laws.{Reached, here}
 use Rattle.reader.specs.declared.Reading.the-variants as reading
 use Rattle.reader.specs.Page.{problemOf, highAt, refused, pageOf, readingOf, recordsIn, linesOf, bufferAfter, Reads}
 use Rattle.reader.proofs.Ends.{good-says}

@@ -24,24 +24,16 @@ push-requires c κs = (omega arith, omega arith, sym (c .before .is-digit .ensur
 
 loop-again : tie.Need-loop-again Inv-loop μ-loop
 loop-again c =
-    let a = c .before .before .before .before .before .before .before .args in
-    let l = c .before .before .before .before .before .loop in
     rw (c .push .ensures)
-    (more (a .text .now) (a .at) (a .start) (a .limit) (l .i) (l .m) (l .inv) (omega arith)
-    (sym (c .before .before .is-digit .ensures) ∙ c .before .if1 .taken))
+    (more _ _ _ _ _ _ (c .before .before .before .before .before .loop .inv) (omega arith) (sym (c .before .before .is-digit .ensures) ∙ c .before .if1 .taken))
 
 returns : tie.Need-returns Inv-loop μ-loop
 returns c =
-    let a = c .before .before .before .before .before .before .args in
     let l = c .before .before .before .before .loop in
-    done (a .text .now) (a .at) (a .start) (a .limit) (l .i) (l .m) (l .inv)
-    (run-stop isDigit (a .text .now) (l .i) (omega arith) (sym (c .before .is-digit .ensures) ∙ c .if1 .left))
+    done _ _ _ _ _ _ (l .inv) (run-stop isDigit (c .before .before .before .before .before .before .args .text .now) (l .i) (omega arith) (sym (c .before .is-digit .ensures) ∙ c .if1 .left))
 
 returns-2 : tie.Need-returns-2 Inv-loop μ-loop
-returns-2 c =
-    let a = c .before .before .before .args in
-    let l = c .before .loop in
-    done (a .text .now) (a .at) (a .start) (a .limit) (l .i) (l .m) (l .inv) (run-end isDigit (a .text .now) (l .i) (omega arith))
+returns-2 c = done _ _ _ _ _ _ (c .before .loop .inv) (run-end isDigit (c .before .before .before .args .text .now) (c .before .loop .i) (omega arith))
 
 pub digits-at-spec : {M : Type 1} → statement M
 digits-at-spec =
