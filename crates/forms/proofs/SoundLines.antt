@@ -106,7 +106,8 @@ amount-third s t sort =
     cond-of Q (eqb sort none) _ _ (λ e. rw e (omega arith, λ h. h))
     (λ e. cond-of Q (eqb sort number) _ _ (λ f. rw (e, f) (omega arith, λ h. h))
     (λ f. cond-of Q (eqb sort expression) _ _ (λ g. rw (e, f, g) (omega arith, λ h. h))
-    (λ g. rw (e, f, g) (side-third s _ (bytes "deg") (bytes "rad") (λ k. (k ≤ either) × (0 < either → 0 < k)) (omega arith, λ h. omega arith) (omega arith, λ h. omega arith)))))
+    (λ g. rw (e, f, g)
+    (side-third s _ (bytes "deg") (bytes "rad") (λ k. (k ≤ either) × (0 < either → 0 < k)) (omega arith, λ h. omega arith) (omega arith, λ h. omega arith)))))
 
 -- a row without a number has none
 amount-none : (s : List ℕ) (t : Stand) (sort : ℕ) → sort ≡ none → amountOn s t sort .bits ≡ 0
@@ -177,7 +178,8 @@ module _ (s : List ℕ) where
       let on = kept-behind s (l .then) in
       let b : Behind (l .then) (n .then) = on .number (around-kept on 61 (side-kept on (bytes "x") (bytes "y") (on .word between (same (l .then))))) in
       let w = side-third s u (bytes "x") (bytes "y") (λ third. fieldsTest (kindAt k) third 1 (n .bits) 0 ≡ true) (fields (n .bits) .0) (fields (n .bits) .1) in
-      one-lined s false (labelled k (c .third) l (n .bits) 0) (n .then) (λ h. one-proper s false k (c .third) (n .bits) 0 l sort w (number-read s _ .fits) small (f (b .back h)))
+      one-lined s false (labelled k (c .third) l (n .bits) 0) (n .then)
+      (λ h. one-proper s false k (c .third) (n .bits) 0 l sort w (number-read s _ .fits) small (f (b .back h)))
 
   assign-lined : (l : Label) → (Reached (l .then) → Found s false l) → Lined s false (assignOn s l)
   unfolding assignOn
@@ -227,7 +229,8 @@ module _ (s : List ℕ) where
       let at = wsOn s t in
       let l = labelOn s at in
       instruction-of s (Lined s false) (record { proper = tt; some = λ h. absurd (h .is); few = omega arith }) t (λ k d. declare-lined k at d)
-      (fixed-lined l fixComponent (bytes ".") refl (λ x. (refl, refl)) (λ h. dotted s l (label-found s at h))) (fixed-lined l fixCenter (bytes ".center.") refl (λ x. (refl, refl)) (label-found s at))
+      (fixed-lined l fixComponent (bytes ".") refl (λ x. (refl, refl)) (λ h. dotted s l (label-found s at h)))
+      (fixed-lined l fixCenter (bytes ".center.") refl (λ x. (refl, refl)) (label-found s at))
       (assign-lined l (label-found s at)) row all-rows (λ k e. keyword-lined k at e)
 
   guessed-lined : (l : Label) (t : Stand) → (Reached t → Found s true l) → Lined s true (guessedOn s l t)
@@ -237,8 +240,10 @@ module _ (s : List ℕ) where
       let n = numberOn s t in
       let on = kept-behind s t in
       either-of (Lined s true) (p .then) _ _
-      (one-lined s true (labelled pairGuess 0 l (p .x) (p .y)) (p .then) (λ h. one-proper s true pairGuess 0 (p .x) (p .y) l refl refl (pair-fit s t .0) (pair-fit s t .1) (f (pair-kept on (same t) .back h))))
-      (one-lined s true (labelled numberGuess 0 l (n .bits) 0) (n .then) (λ h. one-proper s true numberGuess 0 (n .bits) 0 l refl refl (number-read s t .fits) small (f (on .number (same t) .back h))))
+      (one-lined s true (labelled pairGuess 0 l (p .x) (p .y)) (p .then)
+      (λ h. one-proper s true pairGuess 0 (p .x) (p .y) l refl refl (pair-fit s t .0) (pair-fit s t .1) (f (pair-kept on (same t) .back h))))
+      (one-lined s true (labelled numberGuess 0 l (n .bits) 0) (n .then)
+      (λ h. one-proper s true numberGuess 0 (n .bits) 0 l refl refl (number-read s t .fits) small (f (on .number (same t) .back h))))
 
   guess-lined : (t : Stand) → Lined s true (guessOn s t)
   unfolding guessOn

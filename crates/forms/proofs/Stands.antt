@@ -92,3 +92,7 @@ unread rs t e = rw e
 
 pub halted : (t : Stand) (rs : List Record) → OneOf (1 ∷ 2 ∷ []) (tagOf the-type t) → lineOf rs t ≡ noLine t
 halted t rs h = rw (← handed t [] (λ next. rs) h)
+
+-- a line by its records and its end
+pub line-of : {rs rs′ : List Record} {t t′ : Stand} → rs ≡ rs′ → t ≡ t′ → lineOf rs t ≡ lineOf rs′ t′
+line-of e f = rw (e, f)

@@ -104,7 +104,8 @@ says-sound e =
     says-iff
     (λ w. record { known = w .0 .0; third = w .0 .1 .0; count = w .0 .1 .1 .0; spelled = w .1; no-x = w .0 .1 .1 .1 .0; no-y = w .0 .1 .1 .1 .1 })
     (λ s. ((s .known, (s .third, (s .count, (s .no-x, s .no-y)))), s .spelled))
-    (says-and (says-allowed (e .kind) (e .third) (length (e .labels)) (e .x) (e .y)) (says-all _ _ (λ q. says-spelled (labelNo e q) (kindAt (e .kind) .dotted)) (length (e .labels))))
+    (says-and (says-allowed (e .kind) (e .third) (length (e .labels)) (e .x) (e .y))
+    (says-all _ _ (λ q. says-spelled (labelNo e q) (kindAt (e .kind) .dotted)) (length (e .labels))))
 
 pub says-good : (text b : List ℕ) → Says (goodTest text b) (Good text b)
 unfolding goodTest

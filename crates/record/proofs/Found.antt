@@ -80,9 +80,11 @@ module _ (s : List ℕ) where
       let b = byte-at (l .start + l .len) q 46 (rw (f .ends) at e) in
       let n : next ≡ m .start + m .len = place (sym k ∙ g .1 .ends) in
       let long : next - l .start ≡ l .len + suc (m .len) = omega (arith, b .0, g .0, n) in
+      let parts : part s (l .start) (next - l .start) ≡ part s (l .start) (l .len) ++ 46 ∷ part s (m .start) (m .len)
+      = rw (long, take-add (l .len) (suc (m .len)) (drop (l .start) s), drop-drop (l .len) (l .start) s, b .1, g .0) in
       record {
         inside = omega (arith, g .1 .inside, n, g .0, b .0);
-        spelled = inr (part s (l .start) (l .len), part s (m .start) (m .len), rw (long, take-add (l .len) (suc (m .len)) (drop (l .start) s), drop-drop (l .len) (l .start) s, b .1, g .0), f .spelled, g .1 .spelled);
+        spelled = inr (part s (l .start) (l .len), part s (m .start) (m .len), parts, f .spelled, g .1 .spelled);
         ends = ap At (omega (arith, b .0, g .0, n));
       }
     where

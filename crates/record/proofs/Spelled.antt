@@ -28,7 +28,8 @@ run-ends p [] t h e = e
 run-ends p (b ∷ a) t h e = rw (h .0, run-ends p a t (h .1) e)
 
 -- letters and digits at a place, with what is none behind them
-label-is : (l : List ℕ) (at : ℕ) (a t : List ℕ) → drop at l ≡ a ++ t → Plain a → run isAlphanum t ≡ [] → labelOn l (At at) ≡ record { start = at; len = length a; then = At (at + length a) }
+label-is : (l : List ℕ) (at : ℕ) (a t : List ℕ) → drop at l ≡ a ++ t → Plain a → run isAlphanum t ≡ []
+    → labelOn l (At at) ≡ record { start = at; len = length a; then = At (at + length a) }
 unfolding labelOn labelAt runTo
 label-is l at a t e p r =
     let n : at + length a - at ≡ length a = omega arith in

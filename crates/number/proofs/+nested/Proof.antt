@@ -47,7 +47,8 @@ pub +nested-spec : {M : Type 1} → statement M
     (λ c κs. search needs)
     (λ c. c .number-at .ensures ∙ no-root _ _ _ (c .before .before .word .ensures) _ (c .before .match .keys2))
     (λ c κs. search needs)
-    (λ c. c .no-number .ensures ∙ too-deep _ _ _ (c .before .before .before .before .before .word .ensures) _ (c .before .before .before .inside .given .1) _ (c .before .if1 .taken))
+    (λ c. c .no-number .ensures
+    ∙ too-deep _ _ _ (c .before .before .before .before .before .word .ensures) _ (c .before .before .before .inside .given .1) _ (c .before .if1 .taken))
     (λ c. search needs)
     (λ c κs. omega arith)
     (λ c κs. search needs)

@@ -7,9 +7,6 @@ use Rattle.forms.proofs.Words.{not-begun, past-end}
 use Rattle.forms.proofs.keywords.may_stand.Statement.{statement}
 use Rattle.forms.proofs.keywords.may_stand.Tie as tie
 
-returns : tie.Need-returns
-returns c = λ (e : true ≡ false). absurd (true≢false e)
-
 returns-2 : tie.Need-returns-2
 returns-2 c =
     let start = c .before .before .before .before .before in
@@ -26,4 +23,5 @@ returns-3 c =
     (rw (← c .before .byte-at .ensures) (sym (c .may-begin .ensures) ∙ e)))
 
 pub may-stand-spec : {M : Type 1} → statement M
-may-stand-spec = tie.close (tie.spec (λ c. search needs) returns returns-2 (λ c. search needs) (λ c. search needs) (λ c κs. search needs) (λ c κs. search needs) returns-3)
+may-stand-spec = tie.close (tie.spec (λ c. search needs) (λ c. λ (e : true ≡ false). absurd (true≢false e)) returns-2 (λ c. search needs) (λ c. search needs)
+    (λ c κs. search needs) (λ c κs. search needs) returns-3)

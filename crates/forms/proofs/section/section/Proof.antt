@@ -33,9 +33,6 @@ returns c =
     (halt (a .guesses) (a .text .now) (a .own .now) (a .start) (linesOn (a .guesses) (a .text .now) (At (a .first)) (a .number)) (l .own) (l .n) (At (l .at)) (stopOf (a .first) (a .number) (l .k) (l .last)) (l .k) (l .inv)
     (line .result) (line .ensures) (c .before .before .before .before .loop-test .taken) (c .before .before .match .keys2))
 
-put-line-requires : tie.Need-put-line-requires Inv-loop μ-loop
-put-line-requires c κs = omega arith
-
 same-length-2 : tie.Need-same-length-2 Inv-loop μ-loop
 same-length-2 c = c .before .before .before .before .put-line .kept .0 ∙ c .before .before .before .before .before .before .before .before .before .before .before .loop .inv .size
 
@@ -61,9 +58,6 @@ loop-again c =
     (turn (a .guesses) (a .text .now) (a .own .now) (a .start) (linesOn (a .guesses) (a .text .now) (At (a .first)) (a .number)) (l .own) (l .n) (At (l .at)) (stopOf (a .first) (a .number) (l .k) (l .last)) (l .k) (l .inv)
     (line .result) (line .ensures) (c .before .before .before .before .before .before .before .before .before .before .before .before .loop-test .taken) (at .0 .0) (at .1))
 
-same-length-3 : tie.Need-same-length-3 Inv-loop μ-loop
-same-length-3 c = c .before .before .loop .inv .size
-
 returns-3 : tie.Need-returns-3 Inv-loop μ-loop
 returns-3 c =
     let a = c .before .before .before .before .before .args in
@@ -72,4 +66,4 @@ returns-3 c =
     (over (a .guesses) (a .text .now) (a .own .now) (a .start) (linesOn (a .guesses) (a .text .now) (At (a .first)) (a .number)) (l .own) (l .n) (At (l .at)) (stopOf (a .first) (a .number) (l .k) (l .last)) (l .k) (l .inv) (c .before .loop-test .left))
 
 pub section-spec : {M : Type 1} → statement M
-section-spec = tie.close (tie.spec Inv-loop μ-loop loop-holds (λ c κs. search needs) (λ c. search needs) (λ c κs. search needs) (λ c κs. search needs) same-length returns put-line-requires (λ c κs. search needs) (λ c. search needs) same-length-2 returns-2 (λ c. search needs) (λ c. search needs) loop-again (λ c κs. search needs) same-length-3 returns-3)
+section-spec = tie.close (tie.spec Inv-loop μ-loop loop-holds (λ c κs. search needs) (λ c. search needs) (λ c κs. search needs) (λ c κs. search needs) same-length returns (λ c κs. omega arith) (λ c κs. search needs) (λ c. search needs) same-length-2 returns-2 (λ c. search needs) (λ c. search needs) loop-again (λ c κs. search needs) (λ c. c .before .before .loop .inv .size) returns-3)

@@ -26,9 +26,6 @@ returns c = ap formed.Refused (c .malformed-at .ensures) ∙ over _ _ (λ short 
 returns-2 : tie.Need-returns-2 Inv-loop μ-loop
 returns-2 c = ap formed.Refused (c .malformed-at2 .ensures) ∙ over _ _ (λ short few. omega (arith, c .before .if2 .taken, few))
 
-loop-holds : tie.Need-loop-holds Inv-loop μ-loop
-loop-holds c = (omega arith, start _)
-
 -- the entry, from behind the call in the loop
 abbrev start-at : tie.After-good-kind Inv-loop μ-loop → tie.Start Inv-loop μ-loop
 start-at c = c .before .before .before .before .before .before .before .before .before
@@ -69,4 +66,4 @@ returns-5 c =
     end-good (a .text .now) (a .records .now) (omega arith) (omega arith) (l .i) (l .guessed) (l .inv .1) (omega arith) (c .if4 .left)
 
 pub well-formed-spec : {M : Type 1} → statement M
-well-formed-spec = tie.close (tie.spec Inv-loop μ-loop (λ c κs. search needs) returns (λ c κs. search needs) returns-2 loop-holds (λ c. omega arith) (λ c. omega arith) (λ c. omega arith) (λ c. omega arith) (λ c. omega arith) (λ c κs. search needs) (λ c κs. search needs) (λ c κs. search needs) returns-3 (λ c. omega arith) (λ c. omega arith) loop-again (λ c κs. search needs) returns-4 returns-5)
+well-formed-spec = tie.close (tie.spec Inv-loop μ-loop (λ c κs. search needs) returns (λ c κs. search needs) returns-2 (λ c. (omega arith, start _)) (λ c. omega arith) (λ c. omega arith) (λ c. omega arith) (λ c. omega arith) (λ c. omega arith) (λ c κs. search needs) (λ c κs. search needs) (λ c κs. search needs) returns-3 (λ c. omega arith) (λ c. omega arith) loop-again (λ c κs. search needs) returns-4 returns-5)
