@@ -5,14 +5,14 @@ use mathlib.Core.List.{List, [], _∷_}
 use Prim.Native.Nat.{ℕ}
 use types.Run.{OneOf}
 use denote.Enum.Declared.{tagOf}
-use Rattle.text.specs.Text.{from, due, spacesTo, wordAt, noLabel, labelAt, wsOn, wordOn, byteOn, labelOn}
+use Rattle.text.specs.Text.{from, due, noLabel, wsOn, wordOn, byteOn, labelOn}
 use Rattle.text.specs.declared.Stand.{Stand}
 use Rattle.text.specs.declared.Stand.the-variants.{At, Nothing, Refused}
 use Rattle.text.specs.declared.Label.{Label}
 use Rattle.text.proofs.Stand.{the-type}
 use Rattle.text.proofs.Laws.{handed, Reached, here, from-of}
 use Rattle.text.proofs.Within.{Within, ws-within, word-within, byte-within, label-within}
-use Rattle.number.specs.Number.{noNumber, numberAt, depth, exprAt, numberOn, exprOn}
+use Rattle.number.specs.Number.{noNumber, numberOn, exprOn}
 use Rattle.number.specs.declared.Number.{Number}
 use Rattle.number.proofs.Within.{number-read, expr-read}
 use Rattle.record.specs.declared.Record.{Record}

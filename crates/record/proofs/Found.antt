@@ -10,7 +10,7 @@ use lib.ListN.{length, take, drop}
 use lib.Seq.{take-at, take-add, drop-drop}
 use borrow.Author.Tests.{eqb-true, leb-false}
 use Rattle.ground.proofs.Pieces.{each-at}
-use Rattle.text.specs.Text.{run, runTo, starts, isAlphanum, alphanumTo, noLabel, wordAt, byteOn, labelAt, labelOn, joined, suffixedOn}
+use Rattle.text.specs.Text.{run, runTo, starts, isAlphanum, alphanumTo, wordAt, byteOn, labelAt, labelOn, joined, suffixedOn}
 use Rattle.text.specs.declared.Stand.{Stand}
 use Rattle.text.specs.declared.Stand.the-variants.{At, Nothing, Refused}
 use Rattle.text.specs.declared.Label.{Label}

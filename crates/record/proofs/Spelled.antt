@@ -12,8 +12,8 @@ use lib.Seq.{take-length, drop-at, drop-drop}
 use borrow.Author.Tests.{lt-leb}
 use Rattle.ground.proofs.Pieces.{Each, each-of}
 use Rattle.refusal.proofs.Says.{Says, says-and, says-lt, says-eq, says-iff}
-use Rattle.text.specs.Text.{isAlphanum, alphanumTo, run, runTo, labelAt, labelOn, byteOn, wordAt, suffixedOn, dottedOn, noLabel}
-use Rattle.text.specs.declared.Stand.the-variants.{At, Nothing}
+use Rattle.text.specs.Text.{isAlphanum, alphanumTo, run, runTo, labelAt, labelOn, byteOn, wordAt, suffixedOn, dottedOn}
+use Rattle.text.specs.declared.Stand.the-variants.{At}
 use Rattle.text.specs.declared.Label.{Label as Read}
 use Rattle.text.proofs.Laws.{Reached, here, cond-of}
 use Rattle.record.specs.Entry.{Label}
