@@ -14,9 +14,7 @@ returns c = rw (lt-ltb _ _ (c .if1 .taken)) (record { count-is = omega arith; th
 
 returns-2 : tie.Need-returns-2
 unfolding sectionOn
-returns-2 c =
-    let a = c .before .before .before .before .args in
-    rw (le-ltb _ _ (c .before .if1 .left)) (nowhere (a .guesses) (a .text .now) (a .own .now) (a .start) (a .stand) (a .number) (c .match .keys2))
+returns-2 c = rw (le-ltb _ _ (c .before .if1 .left)) (nowhere _ _ _ _ (c .before .before .before .before .args .stand) _ (c .match .keys2))
 
 returns-3 : tie.Need-returns-3
 unfolding sectionOn
