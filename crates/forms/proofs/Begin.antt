@@ -87,16 +87,13 @@ module _ (s : List ℕ) (at b : ℕ) (e : getD s at 0 ≡ b) where
 
 -- ---- keywords
 
-skip : (s : List ℕ) (at i : ℕ) (ks : List ℕ) → noneBegins (getD s at 0) (take i ks) ≡ true → firstOf s (At at) ks ≡ firstOf s (At at) (drop i ks)
+pub skip : (s : List ℕ) (at i : ℕ) (ks : List ℕ) → noneBegins (getD s at 0) (take i ks) ≡ true → firstOf s (At at) ks ≡ firstOf s (At at) (drop i ks)
 unfolding firstOf
 skip s at zero ks e = refl
 skip s at (suc i) [] e = refl
 skip s at (suc i) (k ∷ ks) e =
     rw (no-keyword s (At at) k (word-not (wordOf k) s at (not-true _ (and-first (not (opens (getD s at 0) (wordOf k))) _ e))))
     (skip s at i ks (and-second (not (opens (getD s at 0) (wordOf k))) _ e))
-
-pub skipped : (s : List ℕ) (at i : ℕ) → noneBegins (getD s at 0) (take i keywordKinds) ≡ true → firstOf s (At at) keywordKinds ≡ firstOf s (At at) (drop i keywordKinds)
-skipped s at i e = skip s at i keywordKinds e
 
 -- ---- what stands behind a label
 

@@ -7,10 +7,10 @@ use types.Run.{OneOf}
 use denote.Enum.Declared.{tagOf}
 use Rattle.text.specs.Text.{from, due, noLabel, wsOn, wordOn, byteOn, labelOn}
 use Rattle.text.specs.declared.Stand.{Stand}
-use Rattle.text.specs.declared.Stand.the-variants.{At, Nothing, Refused}
+use Rattle.text.specs.declared.Stand.the-variants.{Nothing}
 use Rattle.text.specs.declared.Label.{Label}
 use Rattle.text.proofs.Stand.{the-type}
-use Rattle.text.proofs.Laws.{handed, Reached, here, from-of}
+use Rattle.text.proofs.Laws.{handed, Reached, here, from-of, either-of}
 use Rattle.text.proofs.Within.{Within, ws-within, word-within, byte-within, label-within}
 use Rattle.number.specs.Number.{noNumber, numberOn, exprOn}
 use Rattle.number.specs.declared.Number.{Number}
@@ -47,11 +47,9 @@ kept-behind s t =
 
 -- what is due at a place stands at one only where it was read
 pub due-behind : (before read : Stand) (number : ℕ) → Behind read (due before read number)
-due-behind before (At n) number = same (At n)
-due-behind (At p) Nothing number = record { back = λ h. absurd (h .is) }
-due-behind Nothing Nothing number = same Nothing
-due-behind (Refused why) Nothing number = same Nothing
-due-behind before (Refused why) number = same (Refused why)
+due-behind before read number =
+    either-of (Behind read) read _ _ (same read)
+    (from-of (Behind read) before _ _ (record { back = λ h. absurd (h .is) }) (λ n e. record { back = λ h. absurd (h .is) }))
 
 -- ---- inside the text
 

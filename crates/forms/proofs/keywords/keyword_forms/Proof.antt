@@ -5,7 +5,7 @@ use Prim.Native.Nat.{_-_}
 use lib.ListN.{drop}
 use Rattle.text.specs.declared.Stand.the-variants.{At}
 use Rattle.forms.specs.Forms.{keywordKinds, firstOf}
-use Rattle.forms.proofs.Begin.{skipped}
+use Rattle.forms.proofs.Begin.{skip}
 use Rattle.text.proofs.Laws.{taken}
 use Rattle.forms.proofs.Table.{keyword-long}
 use Rattle.forms.proofs.Order.{first-here, first-more, first-none}
@@ -19,7 +19,7 @@ abbrev μ-loop : tie.MeasureT-loop
 μ-loop text at kinds array i₀ i = 18 - i
 
 loop-holds : tie.Need-loop-holds Inv-loop μ-loop
-loop-holds c = skipped _ _ (c .skip-to .result) (rw (← c .before .byte-at .ensures) (c .skip-to .ensures))
+loop-holds c = skip _ _ (c .skip-to .result) keywordKinds (rw (← c .before .byte-at .ensures) (c .skip-to .ensures))
 
 try-keyword-requires : tie.Need-try-keyword-requires Inv-loop μ-loop
 try-keyword-requires c κs = (c .before .before .before .before .before .pre, keyword-long (c .before .loop .i) (c .loop-test .taken))
