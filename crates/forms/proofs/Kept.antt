@@ -10,7 +10,7 @@ use Rattle.text.specs.Text.{wsOn, wordOn, byteOn, labelOn, suffixedOn, dottedOn
 use Rattle.text.specs.declared.Stand.{Stand}
 use Rattle.text.specs.declared.Stand.the-variants.{Nothing}
 use Rattle.text.specs.declared.Label.{Label}
-use Rattle.text.proofs.Laws.{from-of, either-of}
+use Rattle.text.proofs.Laws.{from-of, either-of, cond-of}
 use Rattle.number.specs.Number.{numberOn, exprOn}
 use Rattle.record.specs.Kinds.{newPoint, newCircle, newArc, fixComponent, fixCenter, kindAt, wordOf, none, number, expression}
 use Rattle.record.specs.Decode.{isGuess}
@@ -28,13 +28,6 @@ pub record Kept (s : List ℕ) (P : Stand → Type 0) : Type 0 where
   pub label : {t : Stand} → P t → P (labelOn s t .then)
   pub number : {t : Stand} → P t → P (numberOn s t .then)
   pub expr : {t : Stand} → P t → P (exprOn s t .then)
-
--- what holds of each of four amounts holds of the one that three tests pick
-pub picked : (Q : Amount → Type 0) (a b c : Bool) (x y z w : Amount) → Q x → Q y → Q z → Q w → Q (cond a x (cond b y (cond c z w)))
-picked Q true b c x y z w e f g h = e
-picked Q false true c x y z w e f g h = f
-picked Q false false true x y z w e f g h = g
-picked Q false false false x y z w e f g h = h
 
 -- a kind that is declared by a plain label alone, as the table has it
 abbrev pub Declares : ℕ → Type 0
@@ -92,8 +85,9 @@ module _ {s : List ℕ} {P : Stand → Type 0} (k : Kept s P) where
   unfolding amountOn angleOn
   amount-kept {t} sort h =
       let f = around-kept 44 h in
-      picked (λ (n : Amount). P (n .then)) (eqb sort none) (eqb sort number) (eqb sort expression) _ _ _ _
-      h (k .number f) (k .expr f) (side-kept (bytes "deg") (bytes "rad") (k .number f))
+      let Q : Amount → Type 0 = λ n. P (n .then) in
+      cond-of Q (eqb sort none) _ _ (λ _. h) (λ _. cond-of Q (eqb sort number) _ _ (λ _. k .number f)
+      (λ _. cond-of Q (eqb sort expression) _ _ (λ _. k .expr f) (λ _. side-kept (bytes "deg") (bytes "rad") (k .number f))))
 
   -- ---- forms, from behind their first word or label on
 

@@ -7,12 +7,12 @@ use Prim.Native.Nat.{ℕ, _+_, _^_, _≤_, _<_}
 use native.Mathlib.Omega.{arith}
 use lib.Dec.{leb, eqb, ltb, lit<}
 use lib.ListN.{length}
-use borrow.Author.Tests.{not-true, lt-ltb, le-ltb, lt-leb, eq-eqb}
+use borrow.Author.Tests.{not-true, lt-ltb, le-ltb, lt-leb}
 use Rattle.ground.specs.Words.{bytes}
-use Rattle.ground.proofs.Lists.{all}
+use Rattle.ground.proofs.Lists.{and-first, all}
 use Rattle.ground.proofs.Pieces.{Each}
 use Rattle.refusal.specs.First.{EachBelow}
-use Rattle.refusal.proofs.Says.{says-so, says-and, says-eq, says-le, says-lt}
+use Rattle.refusal.proofs.Says.{says-so, says-and, says-le, says-lt}
 use Rattle.text.specs.Text.{wsOn, wordOn, byteOn, labelOn, suffixedOn}
 use Rattle.text.specs.declared.Stand.{Stand}
 use Rattle.text.specs.declared.Stand.the-variants.{At, Nothing, Refused}
@@ -29,11 +29,11 @@ use Rattle.record.specs.declared.View.{View}
 use Rattle.record.specs.declared.Record.{Record}
 use Rattle.record.proofs.UpTo.{each-place}
 use Rattle.record.proofs.Found.{Found, dotted, label-found, suffixed-found}
-use Rattle.record.proofs.Agree.{says-known, says-allowed, sound-of}
+use Rattle.record.proofs.Agree.{sound-of}
 use Rattle.forms.specs.declared.pieces.Amount.{Amount}
 use Rattle.forms.specs.declared.pieces.Side.{Side}
 use Rattle.forms.specs.Forms.{Lines, lineOf, viewFrom, labelled, aroundOn, eitherOn, componentOn, pairOn, declareOn, fixedOn, assignOn, moreOn, angleOn, amountOn, gapOn, keywordOn, keywordKinds, instructionOn, guessedOn, guessOn, lineOn}
-use Rattle.forms.proofs.Kept.{picked, Declares, instruction-of, side-kept, pair-kept, suffixed-kept, around-kept, more-kept, gap-kept, amount-kept}
+use Rattle.forms.proofs.Kept.{Declares, instruction-of, side-kept, pair-kept, suffixed-kept, around-kept, more-kept, gap-kept, amount-kept}
 use Rattle.forms.proofs.Stands.{Behind, same, kept-behind}
 
 -- ---- a record over a text, of an instruction or of a guess
@@ -95,25 +95,6 @@ side-third : (s : List ℕ) (t : Stand) (a b : List ℕ) (Q : ℕ → Type 0) �
 unfolding eitherOn
 side-third s t a b Q f g = either-of (λ (i : Side). Q (i .third)) (wordOn s t a) _ _ f g
 
--- the third bytes of a sort of number
-abbrev thirdsOf : ℕ → ℕ
-thirdsOf sort = cond (eqb sort none) 0 (cond (eqb sort number) 0 (cond (eqb sort expression) 0 either))
-
-amount-third : (s : List ℕ) (t : Stand) (sort : ℕ) → (amountOn s t sort .third ≤ thirdsOf sort) × (0 < thirdsOf sort → 0 < amountOn s t sort .third)
-unfolding amountOn angleOn
-amount-third s t sort =
-    let Q : Amount → Type 0 = λ n. (n .third ≤ thirdsOf sort) × (0 < thirdsOf sort → 0 < n .third) in
-    cond-of Q (eqb sort none) _ _ (λ e. rw e (omega arith, λ h. h))
-    (λ e. cond-of Q (eqb sort number) _ _ (λ f. rw (e, f) (omega arith, λ h. h))
-    (λ f. cond-of Q (eqb sort expression) _ _ (λ g. rw (e, f, g) (omega arith, λ h. h))
-    (λ g. rw (e, f, g)
-    (side-third s _ (bytes "deg") (bytes "rad") (λ k. (k ≤ either) × (0 < either → 0 < k)) (omega arith, λ h. omega arith) (omega arith, λ h. omega arith)))))
-
--- a row without a number has none
-amount-none : (s : List ℕ) (t : Stand) (sort : ℕ) → sort ≡ none → amountOn s t sort .bits ≡ 0
-unfolding amountOn
-amount-none s t sort e = rw (eq-eqb sort none e) refl
-
 -- ---- numbers fit eight bytes
 
 small : 0 < 2 ^ 64
@@ -122,12 +103,6 @@ small = lit< tt
 pair-fit : (s : List ℕ) (t : Stand) → (pairOn s t .x < 2 ^ 64) × (pairOn s t .y < 2 ^ 64)
 unfolding pairOn
 pair-fit s t = (number-read s _ .fits, number-read s _ .fits)
-
-amount-fit : (s : List ℕ) (t : Stand) (sort : ℕ) → amountOn s t sort .bits < 2 ^ 64
-unfolding amountOn angleOn
-amount-fit s t sort =
-    picked (λ (n : Amount). n .bits < 2 ^ 64) (eqb sort none) (eqb sort number) (eqb sort expression) _ _ _ _ small
-    (number-read s _ .fits) (expr-read s _ .fits) (number-read s _ .fits)
 
 -- ---- a line
 
@@ -148,14 +123,29 @@ module _ (s : List ℕ) (guess : Bool) where
 
 -- ---- forms
 
--- what the table has for the kind of a keyword form, as a test
+-- what the table has for the kind of a keyword form, as a test: its fields with each third byte that its sort of number gives
+abbrev amounts : ℕ → Bool
+amounts k =
+    let z = kindAt k in
+    let fields : ℕ → Bool = λ third. fieldsTest z third (z .labels) 0 0 in
+    cond (eqb (z .number) none) (fields 0) (cond (eqb (z .number) number) (fields 0) (cond (eqb (z .number) expression) (fields 0) (fields 1 && fields 2)))
+
 abbrev row : ℕ → Bool
-row k =
-    ltb 0 (kindAt k .labels)
-    && (leb (kindAt k .labels) labelPlaces
-    && (ltb k firstGuess
-    && (not (kindAt k .dotted)
-    && eqb (kindAt k .thirds) (thirdsOf (kindAt k .number)))))
+row k = leb (kindAt k .labels) labelPlaces && (ltb k firstGuess && (not (kindAt k .dotted) && amounts k))
+
+amount-fields : (s : List ℕ) (t : Stand) (k : ℕ) → amounts k ≡ true → let n = amountOn s t (kindAt k .number) in
+    (fieldsTest (kindAt k) (n .third) (kindAt k .labels) (n .bits) 0 ≡ true) × (n .bits < 2 ^ 64)
+unfolding amountOn angleOn
+amount-fields s t k h =
+    let z = kindAt k in
+    let Q : Amount → Type 0 = λ n. (fieldsTest z (n .third) (z .labels) (n .bits) 0 ≡ true) × (n .bits < 2 ^ 64) in
+    cond-of Q (eqb (z .number) none) _ _ (λ e. (rw e (rw e at h), small))
+    (λ e. cond-of Q (eqb (z .number) number) _ _ (λ f. (rw e (rw (e, f) at h), number-read s _ .fits))
+    (λ f. cond-of Q (eqb (z .number) expression) _ _ (λ g. (rw e (rw (e, f, g) at h), expr-read s _ .fits))
+    (λ g.
+    let w = says-and says-so says-so .so (rw (e, f, g) at h) in
+    let x = numberOn s (aroundOn s t 44) .bits in
+    (side-third s _ (bytes "deg") (bytes "rad") (λ third. fieldsTest z third (z .labels) x 0 ≡ true) (rw e (w .0)) (rw e (w .1)), number-read s _ .fits))))
 
 all-rows : all row keywordKinds ≡ true
 all-rows = refl
@@ -197,7 +187,7 @@ module _ (s : List ℕ) where
   unfolding keywordOn
   keyword-lined k t e =
       let z = kindAt k in
-      let w = says-and (says-known k) (says-and (says-le (z .labels) labelPlaces) (says-and (says-lt k firstGuess) (says-and says-so (says-eq (z .thirds) (thirdsOf (z .number)))))) .so e in
+      let w = says-and (says-le (z .labels) labelPlaces) (says-and (says-lt k firstGuess) (says-and says-so says-so)) .so e in
       let at = wsOn s (byteOn s (wsOn s (wordOn s t (wordOf k))) 40) in
       let a = labelOn s at in
       let b = moreOn s (a .then) (ltb 1 (z .labels)) in
@@ -207,8 +197,7 @@ module _ (s : List ℕ) where
       let end = byteOn s (gapOn s (n .then) (z .gap)) 41 in
       let on = kept-behind s (d .then) in
       let d-end : Behind (d .then) end = on .byte 41 (gap-kept on (z .gap) (amount-kept on (z .number) (same (d .then)))) in
-      let fields = says-allowed k (n .third) (z .labels) (n .bits) 0 .back
-      (w .0, (rw (w .1 .1 .1 .1) (amount-third s (d .then) (z .number)), (refl, (amount-none s (d .then) (z .number), λ f. refl)))) in
+      let fields = amount-fields s (d .then) k (w .1 .1 .1) in
       let r : Record = record { kind = k; third = n .third; count = z .labels; labels = viewFrom a ∷ viewFrom b ∷ viewFrom c ∷ viewFrom d ∷ []; x = n .bits; y = 0 } in
       one-lined s false r end
       (λ h.
@@ -216,11 +205,11 @@ module _ (s : List ℕ) where
       let hc = more-kept (kept-behind s (c .then)) (ltb 3 (z .labels)) (same (c .then)) .back hd in
       let hb = more-kept (kept-behind s (b .then)) (ltb 2 (z .labels)) (same (b .then)) .back hc in
       let ha = more-kept (kept-behind s (a .then)) (ltb 1 (z .labels)) (same (a .then)) .back hb in
-      let first : Held s false (ltb 0 (z .labels)) (viewFrom a) = rw (says-known k .back (w .0)) (found-held s false a (label-found s at ha)) in
-      proper-of s r false (lt-leb firstGuess k (w .1 .1 .0)) fields (w .1 .0) refl
-      (rw (not-true (z .dotted) (w .1 .1 .1 .0)) (each-place (λ q. Held s false (ltb q (z .labels)) (viewOf r q)) first
+      let first : Held s false (ltb 0 (z .labels)) (viewFrom a) = rw (and-first (ltb 0 (z .labels)) _ (fields .0)) (found-held s false a (label-found s at ha)) in
+      proper-of s r false (lt-leb firstGuess k (w .1 .0)) (fields .0) (w .0) refl
+      (rw (not-true (z .dotted) (w .1 .1 .0)) (each-place (λ q. Held s false (ltb q (z .labels)) (viewOf r q)) first
       (more-held s (a .then) (ltb 1 (z .labels)) hb) (more-held s (b .then) (ltb 2 (z .labels)) hc) (more-held s (c .then) (ltb 3 (z .labels)) hd)))
-      (amount-fit s (d .then) (z .number)) small)
+      (fields .1) small)
 
   -- ---- lines
 
