@@ -2,7 +2,7 @@
 use mathlib.Core.Path.{_≡_, refl, sym, _∙_}
 use mathlib.Core.Bool.{Bool, true, false, not, true≢false}
 use mathlib.Core.List.{List, [], _∷_}
-use mathlib.Core.Logic.{inl, ⊎-elim}
+use mathlib.Core.Logic.{⊎-elim}
 use Prim.Native.Nat.{ℕ, zero, suc}
 use native.Mathlib.Omega.{arith}
 use native.Mathlib.Decide.{decLe}
@@ -25,9 +25,9 @@ use Rattle.text.proofs.Laws.{runTo-stop, runTo-end}
 use Rattle.number.specs.Number.{numberOn}
 use Rattle.record.specs.Kinds.{newPoint, newCircle, newArc, fixComponent, fixCenter, wordOf}
 use Rattle.record.specs.declared.Record.{Record}
-use Rattle.forms.specs.Forms.{Lines, noLine, lineOf, orLine, aroundOn, pairOn, declareOn, fixedOn, assignOn, keywordKinds, firstOf, labelFormsOn, instructionOn, guessedOn, guessOn, lineOn}
+use Rattle.forms.specs.Forms.{Lines, noLine, lineOf, orLine, aroundOn, pairOn, declareOn, fixedOn, assignOn, keywordOn, keywordKinds, firstOf, labelFormsOn, instructionOn, guessedOn, guessOn, lineOn}
 use Rattle.forms.specs.Steps.{assignedOn, behindOn, declarationOn, opens, noneBegins}
-use Rattle.forms.proofs.Kept.{fixed-kept, assign-kept, suffixed-kept, around-kept}
+use Rattle.forms.proofs.Kept.{instruction-of, fixed-kept, assign-kept, line-kept}
 use Rattle.forms.proofs.Stands.{kept-nothing, unread}
 use Rattle.forms.proofs.Words.{no-keyword, no-declaration}
 
@@ -87,16 +87,13 @@ module _ (s : List ℕ) (at b : ℕ) (e : getD s at 0 ≡ b) where
 
 -- ---- keywords
 
-skip : (s : List ℕ) (at i : ℕ) (ks : List ℕ) → noneBegins (getD s at 0) (take i ks) ≡ true → firstOf s (At at) ks ≡ firstOf s (At at) (drop i ks)
+pub skip : (s : List ℕ) (at i : ℕ) (ks : List ℕ) → noneBegins (getD s at 0) (take i ks) ≡ true → firstOf s (At at) ks ≡ firstOf s (At at) (drop i ks)
 unfolding firstOf
 skip s at zero ks e = refl
 skip s at (suc i) [] e = refl
 skip s at (suc i) (k ∷ ks) e =
     rw (no-keyword s (At at) k (word-not (wordOf k) s at (not-true _ (and-first (not (opens (getD s at 0) (wordOf k))) _ e))))
     (skip s at i ks (and-second (not (opens (getD s at 0) (wordOf k))) _ e))
-
-pub skipped : (s : List ℕ) (at i : ℕ) → noneBegins (getD s at 0) (take i keywordKinds) ≡ true → firstOf s (At at) keywordKinds ≡ firstOf s (At at) (drop i keywordKinds)
-skipped s at i e = skip s at i keywordKinds e
 
 -- ---- what stands behind a label
 
@@ -147,33 +144,25 @@ by-declaration s stand =
 
 -- ---- where reading stands at no place
 
-first-nowhere : (s ks : List ℕ) → firstOf s Nothing ks ≡ noLine Nothing
-unfolding firstOf wordOn
-first-nowhere s [] = refl
-first-nowhere s (k ∷ ks) = rw (no-keyword s Nothing k refl) (first-nowhere s ks)
+-- an instruction whose end was not read is no line
+instruction-unread : (s : List ℕ) (t : Stand) → instructionOn s t .then ≡ Nothing → instructionOn s t ≡ noLine Nothing
+unfolding declareOn fixedOn assignOn keywordOn
+instruction-unread s t =
+    instruction-of s (λ (l : Lines). l .then ≡ Nothing → l ≡ noLine Nothing) (λ e. refl) t (λ k d. unread _ _) (unread _ _) (unread _ _) (unread _ _) (λ k. true) refl (λ k e. unread _ _)
 
-labels-nowhere : (s : List ℕ) → labelFormsOn s Nothing ≡ noLine Nothing
-unfolding labelFormsOn labelOn
-labels-nowhere s =
-    let l : Label = record { start = 0; len = 0; then = Nothing } in
-    let stays : (w : List ℕ) → wordOn s Nothing w ≡ Nothing = λ w. kept-nothing s .word w refl in
-    rw (
-      not-fixed s l fixComponent (bytes ".") (stays (bytes ".")),
-      not-fixed s l fixCenter (bytes ".center.") (stays (bytes ".center.")),
-      not-assigned s l (around-kept (kept-nothing s) 61 (suffixed-kept (kept-nothing s) l refl)),
-    )
-    (first-nowhere s keywordKinds)
+instruction-nowhere : (s : List ℕ) → instructionOn s Nothing ≡ noLine Nothing
+instruction-nowhere s = instruction-unread s Nothing (line-kept (kept-nothing s) false refl)
 
 -- a declaration hands on a stand that is no place, and the other forms read nothing where nothing was read
 pub forms-nowhere : (s : List ℕ) (t : Stand) → OneOf (1 ∷ 2 ∷ []) (tagOf the-type t) → noLine t ≡ orLine (declarationOn s t) (labelFormsOn s t)
 unfolding declareOn wsOn wordOn labelOn
 forms-nowhere s (At n) h = absurd (⊎-elim (λ (e : 0 ≡ 1). omega arith) (λ (e : 0 ≡ 2). omega arith) h)
-forms-nowhere s Nothing h = sym (labels-nowhere s)
+forms-nowhere s Nothing h = sym (instruction-nowhere s) ∙ by-declaration s Nothing
 forms-nowhere s (Refused why) h = refl
 
 pub line-nowhere : (s : List ℕ) (guess : Bool) → lineOn guess s Nothing ≡ noLine Nothing
 unfolding wsOn guessOn guessedOn pairOn suffixedOn labelOn byteOn wordOn numberOn
-line-nowhere s false = by-declaration s Nothing ∙ sym (forms-nowhere s Nothing (inl refl))
+line-nowhere s false = instruction-nowhere s
 line-nowhere s true = refl
 
 -- a refusal is handed on by a line

@@ -1,6 +1,6 @@
 -- The count that bounds the lines of a section is always enough: a larger one reads the same lines. Assumes nothing.
 use mathlib.Core.Path.{_≡_, refl, ap}
-use mathlib.Core.Bool.{Bool, true, false, cond}
+use mathlib.Core.Bool.{Bool, cond}
 use mathlib.Core.List.{List, [], _∷_}
 use Prim.Native.Nat.{ℕ, zero, suc, _+_, _≤_}
 use native.Mathlib.Omega.{arith}
@@ -8,10 +8,10 @@ use lib.ListN.{length, drop, length-drop}
 use Rattle.text.specs.Text.{from, starts, wordAt, byteOn, newlineOn}
 use Rattle.text.specs.declared.Stand.{Stand}
 use Rattle.text.specs.declared.Stand.the-variants.{At, Nothing, Refused}
-use Rattle.text.proofs.Laws.{starts-short}
+use Rattle.text.proofs.Laws.{starts-short, cond-of}
 use Rattle.text.proofs.Within.{starts-length}
 use Rattle.forms.specs.Forms.{Lines, noLine, lineOn}
-use Rattle.forms.specs.Section.{followedBy, stopped, follow, restOf}
+use Rattle.forms.specs.Section.{followedBy, follow, restOf}
 use Rattle.forms.proofs.Kept.{line-kept}
 use Rattle.forms.proofs.Stands.{In, kept-in}
 use Rattle.forms.proofs.Begin.{line-nowhere}
@@ -19,13 +19,11 @@ use Rattle.forms.proofs.Begin.{line-nowhere}
 module _ (s : List ℕ) where
   -- ---- a line that follows ends further on, inside the text
 
-  new-line : (at : ℕ) (t : Bool) → starts (10 ∷ []) (drop at s) ≡ t → In s (at + 1) (cond t (At (at + 1)) Nothing)
-  new-line at true e = record { is = (omega arith, omega (arith, starts-length (10 ∷ []) (drop at s) e, length-drop at s)) }
-  new-line at false e = record { is = tt }
-
   pub newline-in : (at : ℕ) → In s (at + 1) (newlineOn s (At at))
   unfolding byteOn wordAt
-  newline-in at = new-line at (starts (10 ∷ []) (drop at s)) refl
+  newline-in at =
+      cond-of (In s (at + 1)) (starts (10 ∷ []) (drop at s)) (At (at + 1)) Nothing
+      (λ e. record { is = (omega arith, omega (arith, starts-length (10 ∷ []) (drop at s) e, length-drop at s)) }) (λ e. record { is = tt })
 
   past-end : (g : Bool) (at : ℕ) → length s ≤ at → lineOn g s (newlineOn s (At at)) ≡ noLine Nothing
   unfolding byteOn wordAt
@@ -33,14 +31,10 @@ module _ (s : List ℕ) where
 
   -- ---- what follows by another count
 
-  same-follow : (l : Lines) (at : ℕ) (f h : ℕ → Lines) → ((next : ℕ) → In s (at + 1) (At next) → f next ≡ h next) → In s (at + 1) (l .then) → follow l at f ≡ follow l at h
-  same-follow l at f h e k = go (l .then) k
-    where
-      go : (t : Stand) → In s (at + 1) t
-          → from t (noLine (stopped at t)) (λ next. followedBy (l .records) (f next)) ≡ from t (noLine (stopped at t)) (λ next. followedBy (l .records) (h next))
-      go (At next) i = ap (followedBy (l .records)) (e next i)
-      go Nothing i = refl
-      go (Refused why) i = refl
+  same-from : (t : Stand) (rest : Lines) (f h : ℕ → Lines) → ((next : ℕ) → t ≡ At next → f next ≡ h next) → from t rest f ≡ from t rest h
+  same-from (At next) rest f h e = e next refl
+  same-from Nothing rest f h e = refl
+  same-from (Refused why) rest f h e = refl
 
   -- one line more than none makes no difference past the end
   none-past : (k : ℕ) (g : Bool) (at : ℕ) → length s ≤ at → restOf k g s at ≡ noLine (At at)
@@ -52,7 +46,8 @@ module _ (s : List ℕ) where
       → restOf (suc (m + k)) g s at ≡ restOf (suc m) g s at
   unfolding restOf
   one-more m k g at e =
-      same-follow (lineOn g s (newlineOn s (At at))) at (restOf (m + k) g s) (restOf m g s) e (line-kept (kept-in s (at + 1)) g (newline-in at))
+      let l = lineOn g s (newlineOn s (At at)) in
+      same-from (l .then) _ _ _ (λ next i. ap (followedBy (l .records)) (e next (rw i at (line-kept (kept-in s (at + 1)) g (newline-in at)))))
 
   enough : (m : ℕ) (g : Bool) (at k : ℕ) → length s ≤ at + m → restOf (m + k) g s at ≡ restOf m g s at
   enough zero g at k h =

@@ -1,18 +1,23 @@
 -- What spaces, words, bytes, labels and numbers keep of where reading stands, every form keeps: a form is made of them. Assumes nothing.
+use mathlib.Core.Path.{_≡_, refl}
 use mathlib.Core.Bool.{Bool, true, false, cond}
 use mathlib.Core.List.{List, [], _∷_}
-use Prim.Native.Nat.{ℕ, _-_}
+use Prim.Native.Nat.{ℕ}
 use lib.Dec.{eqb, ltb}
 use Rattle.ground.specs.Words.{bytes}
-use Rattle.text.specs.Text.{from, orStand, wsOn, wordOn, byteOn, labelOn, suffixedOn, dottedOn}
+use Rattle.ground.proofs.Lists.{and-first, and-second, all}
+use Rattle.text.specs.Text.{wsOn, wordOn, byteOn, labelOn, suffixedOn, dottedOn}
 use Rattle.text.specs.declared.Stand.{Stand}
-use Rattle.text.specs.declared.Stand.the-variants.{At, Nothing, Refused}
+use Rattle.text.specs.declared.Stand.the-variants.{Nothing}
 use Rattle.text.specs.declared.Label.{Label}
+use Rattle.text.proofs.Laws.{from-of, either-of, cond-of}
 use Rattle.number.specs.Number.{numberOn, exprOn}
 use Rattle.record.specs.Kinds.{newPoint, newCircle, newArc, fixComponent, fixCenter, kindAt, wordOf, none, number, expression}
+use Rattle.record.specs.Decode.{isGuess}
+use Rattle.record.specs.Sound.{fieldsTest}
 use Rattle.forms.specs.declared.pieces.Amount.{Amount}
 use Rattle.forms.specs.declared.pieces.Side.{Side}
-use Rattle.forms.specs.Forms.{Lines, orLine, aroundOn, eitherOn, pairOn, declareOn, fixedOn, assignOn, moreOn, angleOn, plainAmount, amountOn, gapOn, keywordOn, keywordKinds, firstOf, labelFormsOn, instructionOn, guessedOn, guessOn, lineOn}
+use Rattle.forms.specs.Forms.{Lines, noLine, orLine, aroundOn, eitherOn, pairOn, declareOn, fixedOn, assignOn, moreOn, angleOn, amountOn, gapOn, keywordOn, keywordKinds, firstOf, labelFormsOn, instructionOn, guessedOn, guessOn, lineOn}
 
 -- each reader keeps P, and P holds where nothing was read
 pub record Kept (s : List ℕ) (P : Stand → Type 0) : Type 0 where
@@ -24,22 +29,27 @@ pub record Kept (s : List ℕ) (P : Stand → Type 0) : Type 0 where
   pub number : {t : Stand} → P t → P (numberOn s t .then)
   pub expr : {t : Stand} → P t → P (exprOn s t .then)
 
--- one of two words
-abbrev pub side : ℕ → Stand → Side
-side third then = record { third = third; then = then }
+-- a kind that is declared by a plain label alone, as the table has it
+abbrev pub Declares : ℕ → Type 0
+Declares k = (isGuess k ≡ false) × (fieldsTest (kindAt k) 0 1 0 0 ≡ true) × (kindAt k .dotted ≡ false)
 
--- what holds of each of four amounts holds of the one that three tests pick
-pub picked : (Q : Amount → Type 0) (a b c : Bool) (x y z w : Amount) → Q x → Q y → Q z → Q w → Q (cond a x (cond b y (cond c z w)))
-picked Q true b c x y z w e f g h = e
-picked Q false true c x y z w e f g h = f
-picked Q false false true x y z w e f g h = g
-picked Q false false false x y z w e f g h = h
+-- what holds of each form, and of no line, holds of an instruction; of the keyword forms it may hold by a test of their kinds
+module _ (s : List ℕ) (Q : Lines → Type 0) (none : Q (noLine Nothing)) where
+  or-of : {x y : Lines} → Q x → Q y → Q (orLine x y)
+  or-of {x} {y} f g = either-of Q (x .then) x y f g
 
--- what holds of both holds of the first that reads
-pub either-of : {X : Type 0} (Q : X → Type 0) (t : Stand) (x y : X) → Q x → Q y → Q (orStand t x y)
-either-of Q (At n) x y f g = f
-either-of Q Nothing x y f g = g
-either-of Q (Refused why) x y f g = f
+  first-of : (t : Stand) (test : ℕ → Bool) → ((k : ℕ) → test k ≡ true → Q (keywordOn s t k)) → (ks : List ℕ) → all test ks ≡ true → Q (firstOf s t ks)
+  unfolding firstOf
+  first-of t test f [] e = none
+  first-of t test f (k ∷ ks) e = or-of (f k (and-first (test k) (all test ks) e)) (first-of t test f ks (and-second (test k) (all test ks) e))
+
+  pub instruction-of : (t : Stand) → let at = wsOn s t in let l = labelOn s at in
+      ((k : ℕ) → Declares k → Q (declareOn s at k)) → Q (fixedOn s l fixComponent (bytes ".")) → Q (fixedOn s l fixCenter (bytes ".center.")) → Q (assignOn s l)
+      → (test : ℕ → Bool) → all test keywordKinds ≡ true → ((k : ℕ) → test k ≡ true → Q (keywordOn s at k)) → Q (instructionOn s t)
+  unfolding instructionOn labelFormsOn
+  instruction-of t declared fixed center assigned test e keyword =
+      or-of (declared newPoint (refl, refl, refl)) (or-of (declared newCircle (refl, refl, refl)) (or-of (declared newArc (refl, refl, refl))
+      (or-of fixed (or-of center (or-of assigned (first-of (wsOn s t) test keyword keywordKinds e))))))
 
 module _ {s : List ℕ} {P : Stand → Type 0} (k : Kept s P) where
   -- ---- pieces
@@ -50,8 +60,7 @@ module _ {s : List ℕ} {P : Stand → Type 0} (k : Kept s P) where
 
   pub side-kept : {t : Stand} (a b : List ℕ) → P t → P (eitherOn s t a b .then)
   unfolding eitherOn
-  side-kept {t} a b h =
-      either-of (λ (i : Side). P (i .then)) (wordOn s t a) (side 1 (wordOn s t a)) (side 2 (wordOn s t b)) (k .word a h) (k .word b h)
+  side-kept {t} a b h = either-of (λ (i : Side). P (i .then)) (wordOn s t a) _ _ (k .word a h) (k .word b h)
 
   pub pair-kept : {t : Stand} → P t → P (pairOn s t .then)
   unfolding pairOn
@@ -59,12 +68,8 @@ module _ {s : List ℕ} {P : Stand → Type 0} (k : Kept s P) where
 
   pub suffixed-kept : (l : Label) → P (l .then) → P (suffixedOn s l .then)
   unfolding suffixedOn
-  suffixed-kept l h = go (labelOn s (byteOn s (l .then) 46) .then) (k .label (k .byte 46 h))
-    where
-      go : (t : Stand) → P t → P (from t l (λ next. record { start = l .start; len = next - l .start; then = At next }) .then)
-      go (At n) f = f
-      go Nothing f = h
-      go (Refused why) f = h
+  suffixed-kept l h =
+      from-of (λ (m : Label). P (m .then)) (labelOn s (byteOn s (l .then) 46) .then) l _ h (λ n e. rw e at (k .label (k .byte 46 h)))
 
   pub more-kept : {t : Stand} (on : Bool) → P t → P (moreOn s t on .then)
   unfolding moreOn
@@ -79,14 +84,10 @@ module _ {s : List ℕ} {P : Stand → Type 0} (k : Kept s P) where
   pub amount-kept : {t : Stand} (sort : ℕ) → P t → P (amountOn s t sort .then)
   unfolding amountOn angleOn
   amount-kept {t} sort h =
-      let v = aroundOn s t 44 in
       let f = around-kept 44 h in
-      picked (λ (n : Amount). P (n .then)) (eqb sort none) (eqb sort number) (eqb sort expression)
-      (record { bits = 0; third = 0; then = t }) (plainAmount (numberOn s v)) (plainAmount (exprOn s v)) (angleOn s v)
-      h (k .number f) (k .expr f) (side-kept (bytes "deg") (bytes "rad") (k .number f))
-
-  or-kept : (x y : Lines) → P (x .then) → P (y .then) → P (orLine x y .then)
-  or-kept x y f g = either-of (λ (l : Lines). P (l .then)) (x .then) x y f g
+      let Q : Amount → Type 0 = λ n. P (n .then) in
+      cond-of Q (eqb sort none) _ _ (λ _. h) (λ _. cond-of Q (eqb sort number) _ _ (λ _. k .number f)
+      (λ _. cond-of Q (eqb sort expression) _ _ (λ _. k .expr f) (λ _. side-kept (bytes "deg") (bytes "rad") (k .number f))))
 
   -- ---- forms, from behind their first word or label on
 
@@ -109,30 +110,15 @@ module _ {s : List ℕ} {P : Stand → Type 0} (k : Kept s P) where
       (more-kept (ltb 3 (kindAt kind .labels)) (more-kept (ltb 2 (kindAt kind .labels)) (more-kept (ltb 1 (kindAt kind .labels))
       (k .label (k .ws (k .byte 40 (k .ws h)))))))))
 
-  first-kept : {t : Stand} (ks : List ℕ) → P t → P (firstOf s t ks .then)
-  unfolding firstOf
-  first-kept [] h = k .nothing
-  first-kept {t} (kind ∷ ks) h = or-kept (keywordOn s t kind) (firstOf s t ks) (keyword-kept t kind (k .word (wordOf kind) h)) (first-kept ks h)
-
   -- ---- lines
 
-  label-forms-kept : {t : Stand} → P t → P (labelFormsOn s t .then)
-  unfolding labelFormsOn
-  label-forms-kept {t} h =
-      let l = labelOn s t in
-      let f = k .label h in
-      or-kept (fixedOn s l fixComponent (bytes ".")) (orLine (fixedOn s l fixCenter (bytes ".center.")) (orLine (assignOn s l) (firstOf s t keywordKinds))) (fixed-kept l fixComponent (bytes ".") (k .word (bytes ".") f))
-      (or-kept (fixedOn s l fixCenter (bytes ".center.")) (orLine (assignOn s l) (firstOf s t keywordKinds)) (fixed-kept l fixCenter (bytes ".center.") (k .word (bytes ".center.") f))
-      (or-kept (assignOn s l) (firstOf s t keywordKinds) (assign-kept l (around-kept 61 (suffixed-kept l f))) (first-kept keywordKinds h)))
-
   instruction-kept : {t : Stand} → P t → P (instructionOn s t .then)
-  unfolding instructionOn
   instruction-kept {t} h =
-      let at = wsOn s t in
-      let declared : (kind : ℕ) → P (declareOn s at kind .then) = λ kind. declare-kept at kind (k .word (wordOf kind) (k .ws h)) in
-      or-kept (declareOn s at newPoint) (orLine (declareOn s at newCircle) (orLine (declareOn s at newArc) (labelFormsOn s at))) (declared newPoint)
-      (or-kept (declareOn s at newCircle) (orLine (declareOn s at newArc) (labelFormsOn s at)) (declared newCircle)
-      (or-kept (declareOn s at newArc) (labelFormsOn s at) (declared newArc) (label-forms-kept (k .ws h))))
+      let at = k .ws h in
+      let f = k .label at in
+      instruction-of s (λ (l : Lines). P (l .then)) (k .nothing) t (λ kind e. declare-kept _ kind (k .word (wordOf kind) at))
+      (fixed-kept _ fixComponent (bytes ".") (k .word (bytes ".") f)) (fixed-kept _ fixCenter (bytes ".center.") (k .word (bytes ".center.") f))
+      (assign-kept _ (around-kept 61 (suffixed-kept _ f))) (λ kind. true) refl (λ kind e. keyword-kept _ kind (k .word (wordOf kind) at))
 
   guessed-kept : {t : Stand} (l : Label) → P t → P (guessedOn s l t .then)
   unfolding guessedOn

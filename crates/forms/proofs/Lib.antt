@@ -7,7 +7,6 @@ pub mod Order
 pub mod Storing
 pub mod Turns
 pub mod Enough
-pub mod Found
 pub mod SoundLines
 pub mod SoundSection
 pub mod Only

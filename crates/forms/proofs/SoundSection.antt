@@ -1,22 +1,20 @@
 -- Each record of a section is sound over the text, a line has two at most, and a section that is read to a place has one: by its lines, one
 -- behind another. Assumes nothing.
 use mathlib.Core.Bool.{Bool}
-use mathlib.Core.List.{List, [], _∷_, _++_}
-use Prim.Native.Nat.{ℕ, zero, suc, _+_, _*_, _≤_, _<_}
+use mathlib.Core.List.{List}
+use Prim.Native.Nat.{ℕ, zero, suc, _*_, _≤_, _<_}
 use native.Mathlib.Omega.{arith}
 use lib.ListN.{length, length-append}
+use Rattle.ground.proofs.Pieces.{Each, each-append}
 use Rattle.text.specs.Text.{from, due, newlineOn}
 use Rattle.text.specs.declared.Stand.{Stand}
 use Rattle.text.specs.declared.Stand.the-variants.{At, Nothing, Refused}
+use Rattle.text.proofs.Laws.{Reached, here, from-of}
 use Rattle.forms.specs.Forms.{Lines, noLine, lineOn}
-use Rattle.forms.specs.Section.{followedBy, stopped, restOf, linesOn}
+use Rattle.forms.specs.Section.{followedBy, restOf, linesOn}
 use Rattle.forms.proofs.Kept.{line-kept}
-use Rattle.forms.proofs.Stands.{Reached, here, Behind, same, kept-behind, due-behind}
-use Rattle.forms.proofs.SoundLines.{Each, Proper, Lined, line-lined}
-
-each-both : {A : Type 0} (P : A → Type 0) (a b : List A) → Each P a → Each P b → Each P (a ++ b)
-each-both P [] b f g = g
-each-both P (x ∷ a) b f g = (f .0, each-both P a b (f .1) g)
+use Rattle.forms.proofs.Stands.{Behind, same, kept-behind, due-behind}
+use Rattle.forms.proofs.SoundLines.{Proper, Lined, line-lined}
 
 module _ (s : List ℕ) (guess : Bool) where
   -- the records of so many lines
@@ -30,19 +28,16 @@ module _ (s : List ℕ) (guess : Bool) where
   one-more : (most : ℕ) (l rest : Lines) → Lined s guess l → Sound most rest → Sound (suc most) (followedBy (l .records) rest)
   one-more most l rest f g =
       record {
-        proper = each-both (Proper s guess) (l .records) (rest .records) (f .proper) (g .proper);
+        proper = each-append (Proper s guess) (l .records) (rest .records) (f .proper) (g .proper);
         few = omega (arith, f .few, g .few, length-append (l .records) (rest .records));
       }
 
   rest-sound : (most at : ℕ) → Sound most (restOf most guess s at)
   unfolding restOf
   rest-sound zero at = none-sound 0 (At at)
-  rest-sound (suc most) at = go (lineOn guess s (newlineOn s (At at)) .then) (λ next. one-more most _ _ (line-lined s guess (newlineOn s (At at))) (rest-sound most next))
-    where
-      go : (t : Stand) {read : ℕ → Lines} → ((next : ℕ) → Sound (suc most) (read next)) → Sound (suc most) (from t (noLine (stopped at t)) read)
-      go (At next) f = f next
-      go Nothing f = none-sound (suc most) (stopped at Nothing)
-      go (Refused why) f = none-sound (suc most) (stopped at (Refused why))
+  rest-sound (suc most) at =
+      from-of (Sound (suc most)) (lineOn guess s (newlineOn s (At at)) .then) _ _ (none-sound (suc most) _)
+      (λ next e. one-more most _ _ (line-lined s guess (newlineOn s (At at))) (rest-sound most next))
 
   -- the first line is due, so where reading stands at a place behind the lines it stood at one before them, and there is a record
   pub record Due (t : Stand) (l : Lines) : Type 0 where

@@ -5,33 +5,21 @@ use mathlib.Core.List.{List, [], _∷_}
 use Prim.Native.Nat.{ℕ}
 use types.Run.{OneOf}
 use denote.Enum.Declared.{tagOf}
-use Rattle.text.specs.Text.{from, due, spacesTo, wordAt, noLabel, labelAt, wsOn, wordOn, byteOn, labelOn}
+use Rattle.text.specs.Text.{from, due, noLabel, wsOn, wordOn, byteOn, labelOn}
 use Rattle.text.specs.declared.Stand.{Stand}
-use Rattle.text.specs.declared.Stand.the-variants.{At, Nothing, Refused}
+use Rattle.text.specs.declared.Stand.the-variants.{Nothing}
 use Rattle.text.specs.declared.Label.{Label}
 use Rattle.text.proofs.Stand.{the-type}
-use Rattle.text.proofs.Laws.{handed}
+use Rattle.text.proofs.Laws.{handed, Reached, here, from-of, either-of}
 use Rattle.text.proofs.Within.{Within, ws-within, word-within, byte-within, label-within}
-use Rattle.number.specs.Number.{noNumber, numberAt, depth, exprAt, numberOn, exprOn}
+use Rattle.number.specs.Number.{noNumber, numberOn, exprOn}
 use Rattle.number.specs.declared.Number.{Number}
-use Rattle.number.proofs.Within.{number-within, expr-within}
+use Rattle.number.proofs.Within.{number-read, expr-read}
 use Rattle.record.specs.declared.Record.{Record}
 use Rattle.forms.specs.Forms.{lineOf, noLine}
 use Rattle.forms.proofs.Kept.{Kept}
 
 -- ---- a place
-
-abbrev pub Place : Stand → Type 0
-Place (At n) = Unit {0}
-Place Nothing = ⊥
-Place (Refused why) = ⊥
-
--- reading stands at a place
-pub record Reached (t : Stand) : Type 0 where
-  pub is : Place t
-
-pub here : (n : ℕ) → Reached (At n)
-here n = record { is = tt }
 
 -- u is a place only where t is one
 pub record Behind (t u : Stand) : Type 0 where
@@ -42,30 +30,26 @@ same t = record { back = λ h. h }
 
 -- what is read from a place on, or what is handed on
 rail-behind : {X : Type 0} (then : X → Stand) (t u : Stand) (rest : X) (read : ℕ → X) → Behind t u → Behind t (then rest) → Behind t (then (from u rest read))
-rail-behind then t (At n) rest read f g = record { back = λ h. f .back (here n) }
-rail-behind then t Nothing rest read f g = g
-rail-behind then t (Refused why) rest read f g = g
+rail-behind then t u rest read f g = from-of (λ x. Behind t (then x)) u rest read g (λ n e. record { back = λ h. f .back (rw e (here n)) })
 
 pub kept-behind : (s : List ℕ) (t : Stand) → Kept s (Behind t)
 unfolding wsOn wordOn byteOn labelOn numberOn exprOn
 kept-behind s t =
     record {
       nothing = record { back = λ h. absurd (h .is) };
-      ws = λ {t = u} f. rail-behind (λ v. v) t u u (λ at. At (spacesTo s at)) f f;
-      word = λ {t = u} w f. rail-behind (λ v. v) t u u (wordAt s w) f f;
-      byte = λ {t = u} b f. rail-behind (λ v. v) t u u (wordAt s (b ∷ [])) f f;
-      label = λ {t = u} f. rail-behind (λ (l : Label). l .then) t u (noLabel u) (labelAt s) f f;
-      number = λ {t = u} f. rail-behind (λ (n : Number). n .then) t u (noNumber u) (numberAt s) f f;
-      expr = λ {t = u} f. rail-behind (λ (n : Number). n .then) t u (noNumber u) (exprAt depth s) f f;
+      ws = λ {t = u} f. rail-behind (λ v. v) t u u _ f f;
+      word = λ {t = u} w f. rail-behind (λ v. v) t u u _ f f;
+      byte = λ {t = u} b f. rail-behind (λ v. v) t u u _ f f;
+      label = λ {t = u} f. rail-behind (λ (l : Label). l .then) t u (noLabel u) _ f f;
+      number = λ {t = u} f. rail-behind (λ (n : Number). n .then) t u (noNumber u) _ f f;
+      expr = λ {t = u} f. rail-behind (λ (n : Number). n .then) t u (noNumber u) _ f f;
     }
 
 -- what is due at a place stands at one only where it was read
 pub due-behind : (before read : Stand) (number : ℕ) → Behind read (due before read number)
-due-behind before (At n) number = same (At n)
-due-behind (At p) Nothing number = record { back = λ h. absurd (h .is) }
-due-behind Nothing Nothing number = same Nothing
-due-behind (Refused why) Nothing number = same Nothing
-due-behind before (Refused why) number = same (Refused why)
+due-behind before read number =
+    either-of (Behind read) read _ _ (same read)
+    (from-of (Behind read) before _ _ (record { back = λ h. absurd (h .is) }) (λ n e. record { back = λ h. absurd (h .is) }))
 
 -- ---- inside the text
 
@@ -81,8 +65,8 @@ kept-in s p =
       word = λ {t} w h. record { is = word-within s p w t (h .is) };
       byte = λ {t} b h. record { is = byte-within s p b t (h .is) };
       label = λ {t} h. record { is = label-within s p t (h .is) };
-      number = λ {t} h. record { is = number-within s p t (h .is) };
-      expr = λ {t} h. record { is = expr-within s p t (h .is) };
+      number = λ {t} h. record { is = number-read s t .within p (h .is) };
+      expr = λ {t} h. record { is = expr-read s t .within p (h .is) };
     }
 
 -- ---- nothing read
@@ -106,3 +90,7 @@ unread rs t e = rw e
 
 pub halted : (t : Stand) (rs : List Record) → OneOf (1 ∷ 2 ∷ []) (tagOf the-type t) → lineOf rs t ≡ noLine t
 halted t rs h = rw (← handed t [] (λ next. rs) h)
+
+-- a line by its records and its end
+pub line-of : {rs rs′ : List Record} {t t′ : Stand} → rs ≡ rs′ → t ≡ t′ → lineOf rs t ≡ lineOf rs′ t′
+line-of e f = rw (e, f)

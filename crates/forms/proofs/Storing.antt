@@ -1,13 +1,13 @@
 -- Records stored one after another. Assumes nothing.
 use mathlib.Core.Path.{_≡_, refl, sym, _∙_}
-use mathlib.Core.Bool.{Bool, true, false, cond}
+use mathlib.Core.Bool.{true, false, cond}
 use mathlib.Core.List.{List, [], _∷_, _++_}
 use Prim.Native.Nat.{ℕ, suc, _+_, _*_, _≤_}
 use native.Mathlib.Nat.{add-zero}
 use native.Mathlib.Omega.{arith}
-use lib.Dec.{leb→le}
-use borrow.Author.Tests.{le-leb}
+use borrow.Author.Tests.{leb-true, le-leb}
 use lib.ListN.{length}
+use Rattle.text.proofs.Laws.{cond-of}
 use Rattle.store.specs.Store.{room, written}
 use Rattle.store.proofs.Laws.{written-length, written-append, written-none}
 use Rattle.record.specs.Record.{recordBytes, encode, encodeAll}
@@ -19,12 +19,9 @@ use Rattle.forms.specs.Steps.{component, recordsOf, Stored}
 
 -- ---- lengths
 
-kept-length : (t : Bool) (d : List ℕ) (at : ℕ) (bs : List ℕ) → room d at bs ≡ t → length (cond t (written d at bs) d) ≡ length d
-kept-length true d at bs e = written-length d at bs (leb→le (at + length bs) (length d) (rw e tt))
-kept-length false d at bs e = refl
-
 store-length : (d : List ℕ) (n : ℕ) (r : Record) → length (store d n r) ≡ length d
-store-length d n r = kept-length (room d (n * recordBytes) (encode r)) d (n * recordBytes) (encode r) refl
+store-length d n r =
+    cond-of (λ (l : List ℕ). length l ≡ length d) (room d (n * recordBytes) (encode r)) _ d (λ e. written-length d (n * recordBytes) (encode r) (leb-true _ _ e)) (λ e. refl)
 
 pub stored-length : (d : List ℕ) (n : ℕ) (rs : List Record) → length (stored d n rs) ≡ length d
 unfolding stored

@@ -8,10 +8,11 @@ use native.Mathlib.Omega.{arith}
 use lib.ListN.{length, drop, length-append}
 use types.Run.{OneOf}
 use denote.Enum.Declared.{tagOf}
-use Rattle.text.specs.Text.{from, orStand, refusedAt, missed, starts, wordAt, byteOn, newlineOn}
+use Rattle.text.specs.Text.{from, orStand, refusedAt, starts, wordAt, byteOn, newlineOn}
 use Rattle.text.specs.declared.Stand.{Stand}
 use Rattle.text.specs.declared.Stand.the-variants.{At, Nothing, Refused}
-use Rattle.text.proofs.Laws.{handed}
+use Rattle.text.proofs.Laws.{handed, cond-of}
+use Rattle.record.specs.declared.Record.{Record}
 use Rattle.text.proofs.Stand.{the-type}
 use Rattle.forms.specs.declared.pieces.Parsed.{Parsed}
 use Rattle.forms.specs.Forms.{Lines, noLine, lineOn}
@@ -22,11 +23,7 @@ use Rattle.forms.proofs.Storing.{stored-length, stored-append}
 
 -- a line that was read has one record or two
 few-records : (l : Parsed) → length (recordsOf l) ≤ 2
-few-records l = go (l .two) refl
-  where
-    go : (t : Bool) → l .two ≡ t → length (recordsOf l) ≤ 2
-    go true e = rw e (omega arith)
-    go false e = rw e (omega arith)
+few-records l = cond-of (λ (rs : List Record). length rs ≤ 2) (l .two) _ _ (λ e. omega arith) (λ e. omega arith)
 
 -- ---- what is left to read
 
@@ -42,20 +39,14 @@ unfolding restOf leftOf
 rest-left zero g s at = refl
 rest-left (suc most) g s at = refl
 
--- what is missed is no place
-missed-none : (stand : Stand) (number : ℕ) (read : ℕ → Lines) → from (missed stand number) (noLine (missed stand number)) read ≡ noLine (missed stand number)
-missed-none (At place) number read = refl
-missed-none Nothing number read = refl
-missed-none (Refused why) number read = refl
-
-lines-left : (g : Bool) (s : List ℕ) (stand : Stand) (number : ℕ) → linesOn g s stand number ≡ leftOf (suc (length s)) g s stand (missed stand number)
+lines-left : (g : Bool) (s : List ℕ) (at number : ℕ) → linesOn g s (At at) number ≡ leftOf (suc (length s)) g s (At at) (refusedAt number at)
 unfolding linesOn leftOf
-lines-left g s stand number = go (lineOn g s stand .then) (λ next. followedBy (lineOn g s stand .records) (restOf (length s) g s next))
+lines-left g s at number = go (lineOn g s (At at) .then) (λ next. followedBy (lineOn g s (At at) .records) (restOf (length s) g s next))
   where
     go : (t : Stand) (read : ℕ → Lines)
-        → from (orStand t t (missed stand number)) (noLine (orStand t t (missed stand number))) read ≡ from t (noLine (orStand t t (missed stand number))) read
+        → from (orStand t t (refusedAt number at)) (noLine (orStand t t (refusedAt number at))) read ≡ from t (noLine (orStand t t (refusedAt number at))) read
     go (At n) read = refl
-    go Nothing read = missed-none stand number read
+    go Nothing read = refl
     go (Refused why) read = refl
 
 -- where the first line is due at no place, there are no lines
@@ -92,7 +83,7 @@ module _ (g : Bool) (s d₀ : List ℕ) (start : ℕ) where
   pub first : (at number : ℕ) → Left g s d₀ start (linesOn g s (At at) number) d₀ start (At at) (refusedAt number at) 0
   first at number =
       let e : suc (length s) - 0 ≡ suc (length s) = omega arith in
-      let all = lines-left g s (At at) number in
+      let all = lines-left g s at number in
       record { buffer = rw (e, all); count = rw (e, all); then = rw (e, all); size = refl; few = omega arith }
 
   -- the loop ends where nothing more is left

@@ -7,4 +7,3 @@ pub mod Only
 pub mod Cases
 pub mod Significant
 pub mod Within
-pub mod Small

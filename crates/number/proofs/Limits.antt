@@ -2,8 +2,6 @@
 use mathlib.Core.Path.{_≡_, refl, sym, ap, _∙_}
 use mathlib.Core.Bool.{Bool, true, false}
 use Prim.Native.Nat.{ℕ, _+_, _-_, _^_, _≤_, _<_}
-use native.Mathlib.Decide.{decLe}
-use native.Mathlib.Nat.{lt-of-not-le, le-of-lt}
 use native.Mathlib.Omega.{arith}
 use borrow.Author.Tests.{le-leb}
 use Rattle.decimal.specs.Decimal.{limit, power, carried}
@@ -13,16 +11,12 @@ use Rattle.decimal.proofs.Laws.{outside-big, outside-times, outside-over}
 use Rattle.number.specs.Number.{capped, exponentCap, scaleOf, carriedBy, scaled, cappedExponent, valued}
 use Rattle.number.specs.declared.Exponent.{Exponent}
 use Rattle.number.specs.declared.Exponent.the-variants.{Power, Missing}
+use Rattle.number.proofs.Numerals.{capped-same}
 
 -- ---- the digits
 
 pub carried-capped : (m : ℕ) (k : Scale) (s : Bool) → carried (capped limit m) k s ≡ carried m k s
-carried-capped m k s = elim (decLe m limit) [
-  | yes h ↦ (let e : capped limit m ≡ m = omega arith in rw e)
-  | no f ↦ (let e : capped limit m ≡ limit = omega arith in
-      let l : limit ≤ m = le-of-lt (lt-of-not-le f) in
-      rw (e, outside-big m k s l, outside-big limit k s (omega arith)))
-]
+carried-capped m k s = capped-same (λ n. carried n k s) limit m (λ l. outside-big limit k s (omega arith) ∙ sym (outside-big m k s l))
 
 -- ---- the exponent
 
@@ -39,12 +33,9 @@ long-outside m s true size count c h = below-outside m s size count (omega arith
 long-outside m s false size count c h = above-outside m s size count (omega arith)
 
 exponent-capped : (m : ℕ) (s below : Bool) (size count : ℕ) → count < 2 ^ 63 → carriedBy m s below (capped exponentCap size) count ≡ carriedBy m s below size count
-exponent-capped m s below size count c = elim (decLe size exponentCap) [
-  | yes h ↦ (let e : capped exponentCap size ≡ size = omega arith in rw e)
-  | no f ↦ (let e : capped exponentCap size ≡ exponentCap = omega arith in
-      let l : exponentCap ≤ size = le-of-lt (lt-of-not-le f) in
-      rw e (long-outside m s below exponentCap count c (omega arith) ∙ sym (long-outside m s below size count c l)))
-]
+exponent-capped m s below size count c =
+    capped-same (λ n. carriedBy m s below n count) exponentCap size
+    (λ l. long-outside m s below exponentCap count c (omega arith) ∙ sym (long-outside m s below size count c l))
 
 -- ---- both
 

@@ -31,12 +31,16 @@ unfolding numeral
 numeral-ge m [] = le-refl m
 numeral-ge m (d ∷ ds) = omega (arith, numeral-ge (m * 10 + (d - 48)) ds)
 
+-- a limit makes no difference to what is the same from it on
+pub capped-same : {A : Type 0} (f : ℕ → A) (most m : ℕ) → (most ≤ m → f most ≡ f m) → f (capped most m) ≡ f m
+capped-same f most m h = elim (decLe m most) [
+  | yes l ↦ (let e : capped most m ≡ m = omega arith in rw e)
+  | no l ↦ (let e : capped most m ≡ most = omega arith in rw e (h (omega (arith, l))))
+]
+
 -- a limit that is put early makes no difference behind it
 pub capped-numeral : (most m : ℕ) (l : List ℕ) → capped most (numeral (capped most m) l) ≡ capped most (numeral m l)
-capped-numeral most m l = elim (decLe m most) [
-  | yes h ↦ (let e : capped most m ≡ m = omega arith in rw e)
-  | no f ↦ (let e : capped most m ≡ most = omega arith in rw e (omega (arith, numeral-ge most l, numeral-ge m l)))
-]
+capped-numeral most m l = capped-same (λ n. capped most (numeral n l)) most m (λ h. omega (arith, numeral-ge most l, numeral-ge m l))
 
 -- ---- the loop over the digits: at the place i, with the number m of the digits passed
 

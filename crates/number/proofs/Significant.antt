@@ -1,15 +1,16 @@
 -- The limit on m in docs/FORMAT.md's words: without its leading zeros m has at most n digits exactly if it is below 10^n. Assumes nothing.
-use mathlib.Core.Path.{_≡_, refl}
-use mathlib.Core.Bool.{Bool, true, false, cond}
+use mathlib.Core.Path.{_≡_}
+use mathlib.Core.Bool.{true, cond}
 use mathlib.Core.List.{List, [], _∷_, _++_}
 use mathlib.Core.Logic.{_↔_}
 use Prim.Native.Nat.{ℕ, suc, _+_, _-_, _*_, _^_, _≤_, _<_}
 use native.Mathlib.Nat.{pow-succ', pow-le-pow-right, le-trans, lt-of-lt-of-le, lt-of-not-le, not-le-of-lt, mul-assoc, one-mul, one-le-pow, mul-le-mul-right}
 use native.Mathlib.Omega.{arith}
-use borrow.Author.Tests.{eqb-false}
-use lib.Dec.{eqb, eqb→eq}
+use borrow.Author.Tests.{eqb-true, eqb-false}
+use lib.Dec.{eqb}
 use lib.ListN.{length, drop}
-use Rattle.text.specs.Text.{run}
+use Rattle.ground.proofs.Pieces.{Each, each-append}
+use Rattle.text.proofs.Laws.{run-each, cond-of}
 use Rattle.number.proofs.Numerals.{digit-least, digit-most}
 use Rattle.number.specs.Number.{isDigit, digitsAt, numeral, joined, partAt}
 
@@ -21,26 +22,9 @@ significant (d ∷ ds) = cond (eqb d 48) (significant ds) (d ∷ ds)
 -- ---- digits and nothing else
 
 abbrev AllDigits : List ℕ → Type 0
-AllDigits [] = Unit {0}
-AllDigits (d ∷ ds) = (isDigit d ≡ true) × AllDigits ds
-
-picked : (t : Bool) (b : ℕ) (l : List ℕ) → isDigit b ≡ t → AllDigits l → AllDigits (cond t (b ∷ l) [])
-picked true b l e h = (e, h)
-picked false b l e h = tt
-
-run-digits : (s : List ℕ) → AllDigits (run isDigit s)
-run-digits [] = tt
-run-digits (b ∷ bs) = picked (isDigit b) b (run isDigit bs) refl (run-digits bs)
-
-both-digits : (a b : List ℕ) → AllDigits a → AllDigits b → AllDigits (a ++ b)
-both-digits [] b h k = k
-both-digits (d ∷ ds) b h k = (h .0, both-digits ds b (h .1) k)
+AllDigits = Each (λ d. isDigit d ≡ true)
 
 -- ---- between which powers of ten a number lies
-
--- a digit that is not 0
-other : (d : ℕ) → isDigit d ≡ true → eqb d 48 ≡ false → 48 < d
-other d e f = omega (arith, digit-least d e, eqb-false d 48 f)
 
 shift : (m k : ℕ) → m * 10 ^ suc k ≡ m * 10 * 10 ^ k
 shift m k = rw (pow-succ' 10 k, mul-assoc)
@@ -81,17 +65,14 @@ module _ (d : ℕ) (ds : List ℕ) (n : ℕ) (h : AllDigits (d ∷ ds)) where
 few : (l : List ℕ) (n : ℕ) → AllDigits l → (length (significant l) ≤ n) ↔ (numeral 0 l < 10 ^ n)
 unfolding significant numeral
 few [] n h = ((λ _. one-le-pow n 10 (omega arith)), (λ _. omega arith))
-few (d ∷ ds) n h = first (eqb d 48) refl (few ds n (h .1))
-  where
-    first : (t : Bool) → eqb d 48 ≡ t → ((length (significant ds) ≤ n) ↔ (numeral 0 ds < 10 ^ n))
-        → (length (cond t (significant ds) (d ∷ ds)) ≤ n) ↔ (numeral 0 (d ∷ ds) < 10 ^ n)
-    first true e rest = let z : d ≡ 48 = eqb→eq d 48 (rw e tt) in rw z rest
-    first false e rest =
-        (short-below d ds n h, (λ l. lt-of-not-le (λ f. not-le-of-lt l (long-above d ds n h (other d (h .0) e) f))))
+few (d ∷ ds) n h =
+    cond-of (λ (l : List ℕ). (length l ≤ n) ↔ (numeral 0 (d ∷ ds) < 10 ^ n)) (eqb d 48) (significant ds) (d ∷ ds)
+    (λ e. rw (eqb-true d 48 e) (few ds n (h .1)))
+    (λ e. (short-below d ds n h, (λ l. lt-of-not-le (λ f. not-le-of-lt l (long-above d ds n h (omega (arith, digit-least d (h .0), eqb-false d 48 e)) f)))))
 
 -- the digits of a number, before and after its point
 pub few-digits : (s : List ℕ) (first n : ℕ) → (length (significant (joined s first)) ≤ n) ↔ (numeral 0 (joined s first) < 10 ^ n)
 unfolding joined
 few-digits s first n =
     few (digitsAt s first ++ digitsAt s (partAt s first)) n
-    (both-digits (digitsAt s first) (digitsAt s (partAt s first)) (run-digits (drop first s)) (run-digits (drop (partAt s first) s)))
+    (each-append _ (digitsAt s first) (digitsAt s (partAt s first)) (run-each isDigit (drop first s)) (run-each isDigit (drop (partAt s first) s)))

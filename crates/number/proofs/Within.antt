@@ -1,22 +1,23 @@
--- Reading a number or an expression never goes back, and never leaves the text. Assumes nothing.
+-- A number or an expression that is read has bits that fit 64 bits, and reading it never goes back and never leaves the text. Assumes nothing.
 use mathlib.Core.Path.{_≡_, refl}
-use mathlib.Core.Bool.{Bool, true, false, cond}
+use mathlib.Core.Bool.{Bool, false}
 use mathlib.Core.List.{List}
-use Prim.Native.Nat.{ℕ, zero, suc, _+_, _-_, _≤_}
+use Prim.Native.Nat.{ℕ, zero, suc, _+_, _-_, _^_, _≤_, _<_}
 use native.Mathlib.Nat.{le-refl, le-trans}
 use native.Mathlib.Omega.{arith}
-use lib.Dec.{leb}
+use lib.Dec.{leb, lit<}
 use lib.ListN.{length, getD}
 use Rattle.ground.specs.Words.{bytes}
 use Rattle.text.specs.Text.{from, refusedAt, wordAt, byteOn}
 use Rattle.text.specs.declared.Stand.{Stand}
-use Rattle.text.specs.declared.Stand.the-variants.{At, Nothing, Refused}
-use Rattle.text.proofs.Laws.{runTo-ahead}
+use Rattle.text.specs.declared.Stand.the-variants.{Nothing}
+use Rattle.text.proofs.Laws.{runTo-ahead, from-of, cond-of}
 use Rattle.text.proofs.Within.{Within, earlier, runTo-inside, wordAt-within, byte-within}
 use Rattle.decimal.specs.declared.Carried.{Carried}
 use Rattle.decimal.specs.declared.Carried.the-variants.{Bits, Outside}
-use Rattle.root.specs.Function.{rootOf}
-use Rattle.number.specs.Number.{isDigit, isSign, isMinus, isPoint, isExponent, isWord, after, digitsAt, digitsTo, numeral, partAt, endAt, joined, noDigit, exponentAt, carriedBy, noNumber, valued, scaled, numberAt, numberOn, depth, closed, exprAt, exprOn}
+use Rattle.decimal.proofs.Small.{Small, carried-small}
+use Rattle.root.proofs.Small.{root-small}
+use Rattle.number.specs.Number.{isDigit, isSign, isMinus, isPoint, isExponent, isWord, after, digitsAt, digitsTo, numeral, partAt, endAt, joined, noDigit, exponentAt, scaleOf, carriedBy, noNumber, valued, scaled, numberAt, numberOn, depth, closed, exprAt, exprOn}
 use Rattle.number.specs.declared.Exponent.{Exponent}
 use Rattle.number.specs.declared.Exponent.the-variants.{Power, Missing}
 use Rattle.number.specs.declared.Number.{Number}
@@ -29,13 +30,9 @@ module _ (s : List ℕ) where
   abbrev Span : ℕ → ℕ → Type 0
   Span p q = (p ≤ q) × (q ≤ length s)
 
-  step : (test : ℕ → Bool) (at : ℕ) → test 0 ≡ false → at ≤ length s → (t : Bool) → test (getD s at 0) ≡ t → Span at (cond t (at + 1) at)
-  step test at z h true e = (omega arith, omega (arith, inside test s at z e))
-  step test at z h false e = (le-refl at, h)
-
   after-span : (test : ℕ → Bool) (at : ℕ) → test 0 ≡ false → at ≤ length s → Span at (after test s at)
   unfolding after
-  after-span test at z h = step test at z h (test (getD s at 0)) refl
+  after-span test at z h = cond-of (Span at) (test (getD s at 0)) (at + 1) at (λ e. (omega arith, omega (arith, inside test s at z e))) (λ e. (le-refl at, h))
 
   digits-span : (at : ℕ) → at ≤ length s → Span at (digitsTo s at)
   digits-span at h = (runTo-ahead isDigit s at, runTo-inside isDigit s at h)
@@ -56,84 +53,86 @@ module _ (s : List ℕ) where
   Reaches at (Power below size next) = Span at next
   Reaches at Missing = Unit {0}
 
-  missing-or : (t : Bool) (at first next size : ℕ) (below : Bool) → Span at next → Reaches at (cond t Missing (Power below size next))
-  missing-or true at first next size below h = tt
-  missing-or false at first next size below h = h
-
-  exponent-or : (t : Bool) (at : ℕ) → isExponent (getD s at 0) ≡ t → at ≤ length s
-      → Reaches at (cond t (cond (leb (digitsTo s (after isSign s (at + 1))) (after isSign s (at + 1))) Missing (Power (isMinus (getD s (at + 1) 0)) (numeral 0 (digitsAt s (after isSign s (at + 1)))) (digitsTo s (after isSign s (at + 1))))) (Power false 0 at))
-  exponent-or true at e h =
-      let i = inside isExponent s at refl e in
-      let one : Span at (at + 1) = (omega arith, omega arith) in
-      let first = after-span isSign (at + 1) refl (one .1) in
-      missing-or (leb (digitsTo s (after isSign s (at + 1))) (after isSign s (at + 1))) at (after isSign s (at + 1)) (digitsTo s (after isSign s (at + 1))) (numeral 0 (digitsAt s (after isSign s (at + 1)))) (isMinus (getD s (at + 1) 0))
-      (over one (over first (digits-span (after isSign s (at + 1)) (first .1))))
-  exponent-or false at e h = (le-refl at, h)
-
   exponent-span : (at : ℕ) → at ≤ length s → Reaches at (exponentAt s at)
   unfolding exponentAt
-  exponent-span at h = exponent-or (isExponent (getD s at 0)) at refl h
+  exponent-span at h =
+      cond-of (Reaches at) (isExponent (getD s at 0)) _ _
+      (λ e.
+      let first = after isSign s (at + 1) in
+      let one : Span at (at + 1) = (omega arith, omega (arith, inside isExponent s at refl e)) in
+      let sign = after-span isSign (at + 1) refl (one .1) in
+      cond-of (Reaches at) (leb (digitsTo s first) first) Missing (Power (isMinus (getD s (at + 1) 0)) (numeral 0 (digitsAt s first)) (digitsTo s first))
+      (λ f. tt) (λ f. over one (over sign (digits-span first (sign .1)))))
+      (λ e. (le-refl at, h))
 
   -- ---- the number
 
-  valued-within : (p at next : ℕ) (c : Carried) → Span p next → Within s p (valued at next c .then)
-  valued-within p at next (Bits b) h = h
-  valued-within p at next Outside h = tt
+  -- what was read from a place on
+  record Read (p : ℕ) (n : Number) : Type 0 where
+    fits : n .bits < 2 ^ 64
+    within : p ≤ length s → Within s p (n .then)
 
-  scaled-within : (p at : ℕ) (negative : Bool) (m count end : ℕ) (e : Exponent) → Span p end → Reaches end e → Within s p (scaled at negative m count e .then)
-  scaled-within p at negative m count end (Power below size next) a b = valued-within p at next (carriedBy m negative below size count) (over a b)
-  scaled-within p at negative m count end Missing a b = tt
+  unread : (p : ℕ) (t : Stand) → (p ≤ length s → Within s p t) → Read p (noNumber t)
+  unread p t h = record { fits = lit< tt; within = h }
 
-  either-within : (a b : Bool) (p : ℕ) (x y z : Number) → Within s p (x .then) → Within s p (y .then) → Within s p (z .then) → Within s p (cond a x (cond b y z) .then)
-  either-within true b p x y z e f g = e
-  either-within false true p x y z e f g = f
-  either-within false false p x y z e f g = g
+  valued-read : (p at next : ℕ) (c : Carried) → Small c → (p ≤ length s → Span p next) → Read p (valued at next c)
+  valued-read p at next (Bits b) h k = record { fits = h; within = k }
+  valued-read p at next Outside h k = unread p (refusedAt 8 at) (λ l. tt)
 
-  numberAt-within : (at : ℕ) → at ≤ length s → Within s at (numberAt s at .then)
+  scaled-read : (p at : ℕ) (negative : Bool) (m count end : ℕ) (e : Exponent) → (p ≤ length s → Span p end × Reaches end e) → Read p (scaled at negative m count e)
+  scaled-read p at negative m count end (Power below size next) h =
+      valued-read p at next (carriedBy m negative below size count) (carried-small m (scaleOf below size count) negative) (λ l. over (h l .0) (h l .1))
+  scaled-read p at negative m count end Missing h = unread p (refusedAt 8 at) (λ l. tt)
+
+  numberAt-read : (at : ℕ) → Read at (numberAt s at)
   unfolding numberAt
-  numberAt-within at h =
+  numberAt-read at =
       let first = after isSign s at in
+      cond-of (Read at) (isWord (getD s first 0)) _ _ (λ e. unread at (refusedAt 8 at) (λ h. tt))
+      (λ e. cond-of (Read at) (noDigit s first) _ _ (λ f. unread at Nothing (λ h. tt))
+      (λ f. scaled-read at at (isMinus (getD s at 0)) (numeral 0 (joined s first)) (endAt s first - partAt s first) (endAt s first) (exponentAt s (endAt s first))
+      (λ h.
       let a = after-span isSign at refl h in
-      let e = end-span first (a .1) in
-      either-within (isWord (getD s first 0)) (noDigit s first) at (noNumber (refusedAt 8 at)) (noNumber Nothing)
-      (scaled at (isMinus (getD s at 0)) (numeral 0 (joined s first)) (endAt s first - partAt s first) (exponentAt s (endAt s first)))
-      tt tt
-      (scaled-within at at (isMinus (getD s at 0)) (numeral 0 (joined s first)) (endAt s first - partAt s first) (endAt s first) (exponentAt s (endAt s first)) (over a e) (exponent-span (endAt s first) (e .1)))
+      let b = end-span first (a .1) in
+      (over a b, exponent-span (endAt s first) (b .1)))))
 
   -- ---- the expression
 
-  rooted-within : (p bits : ℕ) (t : Stand) → Within s p t → Within s p (from t (noNumber t) (λ next. record { bits = bits; then = At next }) .then)
-  rooted-within p bits (At n) k = k
-  rooted-within p bits Nothing k = tt
-  rooted-within p bits (Refused why) k = tt
-
-  closed-within : (p : ℕ) (inner : Number) → Within s p (inner .then) → Within s p (closed s inner .then)
+  closed-read : (p : ℕ) (inner : Number) → Read p inner → Read p (closed s inner)
   unfolding closed
-  closed-within p inner h = rooted-within p (rootOf (inner .bits)) (byteOn s (inner .then) 41) (byte-within s p 41 (inner .then) h)
+  closed-read p inner r =
+      let t = byteOn s (inner .then) 41 in
+      let i : p ≤ length s → Within s p t = λ h. byte-within s p 41 (inner .then) (r .within h) in
+      from-of (Read p) t _ _ (unread p t i) (λ n e. record { fits = root-small (inner .bits) (r .fits); within = λ h. rw e at (i h) })
 
   -- what stands behind `sqrt(`, where it stands there
-  nested-within : (at : ℕ) (t : Stand) (n : Number) (rest : ℕ → Number) → Within s at t → Within s at (n .then)
-      → ((inside : ℕ) → at ≤ inside → inside ≤ length s → Within s at (rest inside .then)) → Within s at (from t n rest .then)
-  nested-within at (At inside) n rest k h f = f inside (k .0) (k .1)
-  nested-within at Nothing n rest k h f = h
-  nested-within at (Refused why) n rest k h f = h
-
-  exprAt-within : (left at : ℕ) → at ≤ length s → Within s at (exprAt left s at .then)
+  exprAt-read : (left at : ℕ) → Read at (exprAt left s at)
   unfolding exprAt
-  exprAt-within zero at h = nested-within at (wordAt s (bytes "sqrt(") at) (numberAt s at) _ (wordAt-within s (bytes "sqrt(") at h) (numberAt-within at h) (λ inside a b. tt)
-  exprAt-within (suc left) at h =
-      nested-within at (wordAt s (bytes "sqrt(") at) (numberAt s at) _ (wordAt-within s (bytes "sqrt(") at h) (numberAt-within at h)
-      (λ inside a b. closed-within at (exprAt left s inside) (earlier s (exprAt left s inside .then) a (exprAt-within left inside b)))
+  exprAt-read zero at = from-of (Read at) (wordAt s (bytes "sqrt(") at) _ _ (numberAt-read at) (λ n e. unread at (refusedAt 9 at) (λ h. tt))
+  exprAt-read (suc left) at =
+      from-of (Read at) (wordAt s (bytes "sqrt(") at) _ _ (numberAt-read at)
+      (λ n e.
+      let r = exprAt-read left n in
+      let i : at ≤ length s → Span at n = λ h. rw e at (wordAt-within s (bytes "sqrt(") at h) in
+      closed-read at (exprAt left s n) (record { fits = r .fits; within = λ h. earlier s (exprAt left s n .then) (i h .0) (r .within (i h .1)) }))
 
-  module _ (p : ℕ) where
-    pub number-within : (stand : Stand) → Within s p stand → Within s p (numberOn s stand .then)
-    unfolding numberOn
-    number-within (At n) h = earlier s (numberAt s n .then) (h .0) (numberAt-within n (h .1))
-    number-within Nothing h = tt
-    number-within (Refused why) h = tt
+  -- ---- where reading stands
 
-    pub expr-within : (stand : Stand) → Within s p stand → Within s p (exprOn s stand .then)
-    unfolding exprOn
-    expr-within (At n) h = earlier s (exprAt depth s n .then) (h .0) (exprAt-within depth n (h .1))
-    expr-within Nothing h = tt
-    expr-within (Refused why) h = tt
+  pub record ReadOn (t : Stand) (n : Number) : Type 0 where
+    pub fits : n .bits < 2 ^ 64
+    pub within : (p : ℕ) → Within s p t → Within s p (n .then)
+
+  read-on : (read : ℕ → Number) → ((at : ℕ) → Read at (read at)) → (t : Stand) → ReadOn t (from t (noNumber t) read)
+  read-on read r t =
+      record {
+        fits = from-of (λ (n : Number). n .bits < 2 ^ 64) t _ _ (lit< tt) (λ n e. r n .fits);
+        within = λ p h. from-of (λ (n : Number). Within s p (n .then)) t _ _ h (λ n e. let w = rw e at h in earlier s (read n .then) (w .0) (r n .within (w .1)));
+      }
+
+  pub number-read : (t : Stand) → ReadOn t (numberOn s t)
+  unfolding numberOn
+  number-read t = read-on (numberAt s) numberAt-read t
+
+  pub expr-read : (t : Stand) → ReadOn t (exprOn s t)
+  unfolding exprOn
+  expr-read t = read-on (exprAt depth s) (exprAt-read depth) t

@@ -7,8 +7,10 @@ use native.Mathlib.Omega.{arith}
 use borrow.Author.Tests.{le-leb, lt-ltb, le-ltb, ltb-false}
 use lib.Dec.{ltb}
 use lib.ListN.{length, take, length-append}
+use Rattle.refusal.specs.declared.Refusal.{Refusal}
 use Rattle.text.specs.declared.Stand.{Stand}
 use Rattle.text.specs.declared.Stand.the-variants.{At, Nothing, Refused}
+use Rattle.text.proofs.Laws.{cond-of}
 use Rattle.store.specs.Store.{room, written}
 use Rattle.store.proofs.Laws.{written-first}
 use Rattle.record.specs.Record.{recordBytes, mostRecords, recordRoom, longestText, encodeAll}
@@ -40,30 +42,22 @@ pub record Says (i g bytes : ℕ) (t : Stand) (a b e : ℕ) : Type 0 where
   pub few : i + g ≤ mostRecords
   pub room-for : recordBytes * (i + g) ≤ bytes
 
-module _ (whole : Bool) (size i g bytes a b e : ℕ) where
-  pub good-says : (t : Stand) → endedOf whole size i g bytes t ≡ reading.Good a b e → Says i g bytes t a b e
-  good-says (At end) h =
-      go (whole && ltb end size) (ltb mostRecords (i + g)) (ltb bytes (recordBytes * (i + g))) refl refl h
-    where
-      go : (x y z : Bool) → ltb mostRecords (i + g) ≡ y → ltb bytes (recordBytes * (i + g)) ≡ z
-          → cond x (refused 10 end) (cond y (refused 11 0) (cond z (refused 12 0) (reading.Good i g end))) ≡ reading.Good a b e
-          → Says i g bytes (At end) a b e
-      go true y z f k t = let c : _≡_ {A = ℕ} 0 1 = cc in absurd (omega arith)
-      go false true z f k t = let c : _≡_ {A = ℕ} 0 1 = cc in absurd (omega arith)
-      go false false true f k t = let c : _≡_ {A = ℕ} 0 1 = cc in absurd (omega arith)
-      go false false false f k t =
-          let ai : a ≡ i = cc in
-          let bg : b ≡ g = cc in
-          let ee : end ≡ e = cc in
-          record {
-            instructions-are = ai;
-            guesses-are = bg;
-            ended = ap At ee;
-            few = ltb-false mostRecords (i + g) f;
-            room-for = ltb-false bytes (recordBytes * (i + g)) k;
-          }
-  good-says Nothing h = let c : _≡_ {A = ℕ} 0 1 = cc in absurd (omega arith)
-  good-says (Refused why) h = let c : _≡_ {A = ℕ} 0 1 = cc in absurd (omega arith)
+-- a refusal is not good
+pub not-good : {A : Type 0} {why : Refusal} {a b e : ℕ} → reading.Refused why ≡ reading.Good a b e → A
+not-good h = let c : _≡_ {A = ℕ} 0 1 = cc in absurd (omega arith)
+
+pub good-says : (whole : Bool) (size i g bytes a b e : ℕ) (t : Stand) → endedOf whole size i g bytes t ≡ reading.Good a b e → Says i g bytes t a b e
+good-says whole size i g bytes a b e (At end) h =
+    let Q : Reading → Type 0 = λ r. r ≡ reading.Good a b e → Says i g bytes (At end) a b e in
+    cond-of Q (whole && ltb end size) _ _ (λ x. not-good)
+    (λ x. cond-of Q (ltb mostRecords (i + g)) _ _ (λ y. not-good)
+    (λ y. cond-of Q (ltb bytes (recordBytes * (i + g))) _ (reading.Good i g end) (λ z. not-good)
+    (λ z k.
+    let ee : end ≡ e = cc in
+    record { instructions-are = cc; guesses-are = cc; ended = ap At ee; few = ltb-false mostRecords (i + g) y; room-for = ltb-false bytes (recordBytes * (i + g)) z })))
+    h
+good-says whole size i g bytes a b e Nothing h = not-good h
+good-says whole size i g bytes a b e (Refused why) h = not-good h
 
 -- ---- reading has ended
 

@@ -1,29 +1,26 @@
 -- Each record of a page is sound over the text, and a page that is read to its end has an instruction and a guess. Assumes nothing.
-use mathlib.Core.Bool.{Bool, true, false}
-use mathlib.Core.List.{List, [], _∷_}
-use Prim.Native.Nat.{ℕ, zero, suc, _+_, _-_, _≤_, _<_}
+use mathlib.Core.Bool.{true, false}
+use mathlib.Core.List.{List}
+use Prim.Native.Nat.{ℕ, _+_, _-_, _<_}
 use mathlib.Core.Path.{_≡_}
-use native.Mathlib.Nat.{not-suc-le-zero}
 use native.Mathlib.Omega.{arith}
 use native.Mathlib.Decide.{decLt}
 use lib.ListN.{length, getD, length-append, List·getD-append}
+use lib.Dec.{leb}
 use lib.Seq.{getD-append-add}
+use borrow.Author.Tests.{le-leb, lt-leb}
 use Rattle.ground.specs.Words.{bytes}
+use Rattle.ground.proofs.Pieces.{Each, each-at}
 use Rattle.text.specs.Text.{due, wsOn, newlineOn}
 use Rattle.text.specs.declared.Stand.{Stand}
 use Rattle.text.specs.declared.Stand.the-variants.{At}
+use Rattle.text.proofs.Laws.{Reached, either-of}
 use Rattle.record.specs.Decode.{noRecord}
 use Rattle.forms.specs.Section.{linesOn}
-use Rattle.forms.proofs.Kept.{either-of}
-use Rattle.forms.proofs.Stands.{Reached, Behind, same, kept-behind, due-behind}
-use Rattle.forms.proofs.SoundLines.{Each, Proper}
+use Rattle.forms.proofs.Stands.{Behind, same, kept-behind, due-behind}
+use Rattle.forms.proofs.SoundLines.{Proper}
 use Rattle.forms.proofs.SoundSection.{lines-due}
 use Rattle.reader.specs.Page.{headingOn, optNewlineOn, problemOf, recordsIn}
-
-each-at : {A : Type 0} (P : A → Type 0) (l : List A) (d : A) (i : ℕ) → Each P l → i < length l → P (getD l i d)
-each-at P [] d i f h = absurd (not-suc-le-zero h)
-each-at P (x ∷ l) d zero f h = f .0
-each-at P (x ∷ l) d (suc i) f h = each-at P l d i (f .1) (omega arith)
 
 -- ---- headings
 
@@ -68,23 +65,13 @@ module _ (s : List ℕ) where
       (lines-due s false top 4 .some (b .back (w .behind .back k)), w .some k)
 
   -- an instruction stands before the count of the instructions, and a guess from there on
-  pub instruction-at : (i : ℕ) → i < length (problemOf s .instructions) → Proper s false (getD (recordsIn s) i noRecord)
-  instruction-at i h =
-      rw (List·getD-append (problemOf s .instructions) (problemOf s .guesses) noRecord i h)
-      (each-at (Proper s false) (problemOf s .instructions) noRecord i instructions-proper h)
-
-  pub guess-at : (i : ℕ) → length (problemOf s .instructions) ≤ i → i < length (recordsIn s) → Proper s true (getD (recordsIn s) i noRecord)
-  guess-at i h k =
-      let n = length (problemOf s .instructions) in
-      let e : i ≡ n + (i - n) = omega arith in
-      let b : i - n < length (problemOf s .guesses) = omega (arith, h, k, length-append (problemOf s .instructions) (problemOf s .guesses)) in
-      rw (e, getD-append-add (problemOf s .instructions) (problemOf s .guesses) (i - n) noRecord)
-      (each-at (Proper s true) (problemOf s .guesses) noRecord (i - n) guesses-proper b)
-
-  -- each record is one or the other
-  pub record-at : (i : ℕ) → i < length (recordsIn s) → (guess : Bool) × Proper s guess (getD (recordsIn s) i noRecord)
+  pub record-at : (i : ℕ) → i < length (recordsIn s) → Proper s (leb (length (problemOf s .instructions)) i) (getD (recordsIn s) i noRecord)
   record-at i h =
-      elim (decLt i (length (problemOf s .instructions))) [
-        | yes a ↦ (false, instruction-at i a)
-        | no a ↦ (true, guess-at i (omega (arith, a)) h)
+      let is = problemOf s .instructions in
+      let gs = problemOf s .guesses in
+      elim (decLt i (length is)) [
+        | yes a ↦ rw (lt-leb (length is) i a, List·getD-append is gs noRecord i a) (each-at (Proper s false) is noRecord instructions-proper i a)
+        | no a ↦ (let e : i ≡ length is + (i - length is) = omega (arith, a) in
+            rw (le-leb (length is) i (omega (arith, a)), e, getD-append-add is gs (i - length is) noRecord)
+            (each-at (Proper s true) gs noRecord guesses-proper (i - length is) (omega (arith, a, h, length-append is gs))))
       ]

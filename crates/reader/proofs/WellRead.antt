@@ -8,7 +8,7 @@ use native.Mathlib.Omega.{arith}
 use lib.Dec.{ltb}
 use lib.ListN.{length, getD, take, drop, length-append, length-map, List·getD-map}
 use lib.Seq.{take-at, ext-getD}
-use borrow.Author.Tests.{ltb-false, leb-true, leb-false, lt-ltb}
+use borrow.Author.Tests.{ltb-false, leb-true, leb-false, le-leb, lt-leb, lt-ltb}
 use Rattle.refusal.specs.First.{Nowhere}
 use Rattle.text.specs.declared.Stand.the-variants.{At}
 use Rattle.record.specs.Record.{recordBytes, mostRecords, longestText, firstGuess, encodeAll}
@@ -22,19 +22,20 @@ use Rattle.record.proofs.Entries.{whole-length}
 use Rattle.record.proofs.Told.{passed-iff}
 use Rattle.record.proofs.WellFormed.{well-formed-iff}
 use Rattle.record.proofs.Written.{good-written, entry-decoded}
-use Rattle.forms.proofs.Stands.{Reached, here}
+use Rattle.text.proofs.Laws.{Reached, here, cond-of}
+use Rattle.reader.specs.declared.Reading.{Reading}
 use Rattle.reader.specs.declared.Reading.the-variants as reading
-use Rattle.reader.specs.Page.{problemOf, highAt, refused, pageOf, readingOf, recordsIn, linesOf, bufferAfter, Reads}
-use Rattle.reader.proofs.Ends.{good-says}
+use Rattle.reader.specs.Page.{problemOf, highAt, readingOf, recordsIn, linesOf, bufferAfter, Reads}
+use Rattle.reader.proofs.Ends.{not-good, good-says}
 use Rattle.reader.proofs.Written.{written-fits, read-back}
-use Rattle.reader.proofs.SoundPage.{some-of-each, instruction-at, guess-at, record-at}
+use Rattle.reader.proofs.SoundPage.{some-of-each, record-at}
 
 -- ---- the bytes of the records of a page
 
 module _ (s : List ℕ) (short : length s ≤ longestText) where
   each-good : (i : ℕ) → i < length (recordsIn s) → Good s (recordOf (encodeAll (recordsIn s)) i)
   each-good i h =
-      let p = record-at s i h .1 in
+      let p = record-at s i h in
       rw (record-of-all (recordsIn s) i h)
       (good-written s (getD (recordsIn s) i noRecord) (written-fits s short noRecord i h) short (p .few) (p .placed) (p .sound))
 
@@ -57,10 +58,10 @@ module _ (s : List ℕ) (short : length s ≤ longestText) where
           some-guess = omega (arith, count-is, n, w .1);
           before = λ i h k.
               let b : i < length (recordsIn s) = omega (arith, h, n) in
-              omega (arith, rw (back i b) at k, leb-false firstGuess (getD (recordsIn s) i noRecord .kind) (instruction-at s i h .sort));
+              omega (arith, rw (back i b) at k, leb-false firstGuess (getD (recordsIn s) i noRecord .kind) (record-at s i b .sort ∙ lt-leb (length (problemOf s .instructions)) i h));
           behind = λ i h k.
               let b : i < length (recordsIn s) = omega (arith, k, count-is) in
-              rw (back i b) (leb-true firstGuess (getD (recordsIn s) i noRecord .kind) (guess-at s i h b .sort));
+              rw (back i b) (leb-true firstGuess (getD (recordsIn s) i noRecord .kind) (record-at s i b .sort ∙ le-leb (length (problemOf s .instructions)) i h));
         }
 
     pub page-well-formed : WellFormed s (encodeAll (recordsIn s))
@@ -82,28 +83,21 @@ pub record GoodPage (s : List ℕ) (i g end : ℕ) : Type 0 where
   pub guesses-are : g ≡ length (problemOf s .guesses)
   pub few : length (recordsIn s) ≤ mostRecords
 
-module _ (whole : Bool) (s : List ℕ) (size i g end : ℕ) where
-  -- an answer that is good was not refused
-  good-ended : length s ≤ longestText → pageOf whole s (problemOf s) size ≡ reading.Good i g end → GoodPage s i g end
-  good-ended short h =
-      let w = good-says whole (length s) (length (problemOf s .instructions)) (length (problemOf s .guesses)) size i g end (problemOf s .then) h in
-      record {
-        short = short;
-        ended = w .ended;
-        instructions-are = w .instructions-are;
-        guesses-are = w .guesses-are;
-        few = omega (arith, w .few, length-append (problemOf s .instructions) (problemOf s .guesses));
-      }
-
-  good-read : readingOf whole s size ≡ reading.Good i g end → GoodPage s i g end
-  unfolding readingOf
-  good-read h = go (ltb longestText (length s)) (ltb (highAt s) (length s)) refl h
-    where
-      go : (a b : Bool) → ltb longestText (length s) ≡ a
-          → cond a (refused 1 0) (cond b (refused 2 (highAt s)) (pageOf whole s (problemOf s) size)) ≡ reading.Good i g end → GoodPage s i g end
-      go true b e k = let c : _≡_ {A = ℕ} 0 1 = cc in absurd (omega arith)
-      go false true e k = let c : _≡_ {A = ℕ} 0 1 = cc in absurd (omega arith)
-      go false false e k = good-ended (ltb-false longestText (length s) e) k
+good-read : (whole : Bool) (s : List ℕ) (size i g end : ℕ) → readingOf whole s size ≡ reading.Good i g end → GoodPage s i g end
+unfolding readingOf
+good-read whole s size i g end =
+    let Q : Reading → Type 0 = λ r. r ≡ reading.Good i g end → GoodPage s i g end in
+    cond-of Q (ltb longestText (length s)) _ _ (λ e. not-good)
+    (λ e. cond-of Q (ltb (highAt s) (length s)) _ _ (λ f. not-good)
+    (λ f k.
+    let w = good-says whole (length s) (length (problemOf s .instructions)) (length (problemOf s .guesses)) size i g end (problemOf s .then) k in
+    record {
+      short = ltb-false longestText (length s) e;
+      ended = w .ended;
+      instructions-are = w .instructions-are;
+      guesses-are = w .guesses-are;
+      few = omega (arith, w .few, length-append (problemOf s .instructions) (problemOf s .guesses));
+    }))
 
 -- ---- what a good reading writes
 

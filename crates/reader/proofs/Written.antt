@@ -60,7 +60,7 @@ module _ (s : List ℕ) (short : length s ≤ longestText) (guess : Bool) (r : R
 
 -- each record of a page that is not too long fits its bytes
 pub written-fits : (s : List ℕ) → length s ≤ longestText → (d : Record) (i : ℕ) → i < length (recordsIn s) → Fits (getD (recordsIn s) i d)
-written-fits s h d i l = rw (getD-inside (recordsIn s) i d noRecord l) (let w = record-at s i l in proper-fits s h (w .0) (getD (recordsIn s) i noRecord) (w .1))
+written-fits s h d i l = rw (getD-inside (recordsIn s) i d noRecord l) (proper-fits s h _ (getD (recordsIn s) i noRecord) (record-at s i l))
 
 -- and comes back whole from them
 pub read-back : (s : List ℕ) → length s ≤ longestText → (i : ℕ) → i < length (recordsIn s) → decodeAt (encodeAll (recordsIn s)) i ≡ getD (recordsIn s) i noRecord

@@ -19,7 +19,7 @@ use Rattle.record.specs.Kinds.{Kind, kinds, kindAt, noKind, none, pair}
 use Rattle.record.specs.Record.{recordBytes, mark, firstGuess, labelPlaces, longestText}
 use Rattle.record.specs.Decode.{decode}
 use Rattle.record.specs.Entry.{Entry, noEntry, labelNo, named, entryOf, noView, viewOf}
-use Rattle.record.specs.Sound.{guessEnd, guessZeros, Placed, Framed, Known, Sound, Good, spelledTest, placedTest, framedTest, fieldsTest, soundTest, goodTest}
+use Rattle.record.specs.Sound.{guessEnd, guessZeros, Placed, Framed, Known, Third, Spelled, Sound, Good, spelledTest, placedTest, framedTest, fieldsTest, soundTest, goodTest}
 use Rattle.record.proofs.Spelled.{says-spelled}
 use Rattle.record.proofs.UpTo.{length-up-to, getD-up-to}
 
@@ -88,19 +88,24 @@ says-known k =
 
 -- ---- what the bytes say
 
+-- the fields that a kind allows
+pub says-allowed : (kind third count x y : ℕ) → Says (fieldsTest (kindAt kind) third count x y)
+    (Known kind × (Third kind third × ((count ≡ kindAt kind .labels) × ((kindAt kind .number ≡ none → x ≡ 0) × ((kindAt kind .number ≡ pair → ⊥) → y ≡ 0)))))
+says-allowed kind third count x y =
+    let k = kindAt kind in
+    says-and (says-known kind)
+    (says-and (says-and (says-le third (k .thirds)) (says-if (says-lt 0 (k .thirds)) (says-lt 0 third)))
+    (says-and (says-eq count (k .labels))
+    (says-and (says-if (says-eq (k .number) none) (says-eq x 0)) (says-unless (says-eq (k .number) pair) (says-eq y 0)))))
+
 pub says-sound : (e : Entry) → Says (soundTest e) (Sound e)
 unfolding soundTest
 says-sound e =
-    let k = kindAt (e .kind) in
     says-iff
     (λ w. record { known = w .0 .0; third = w .0 .1 .0; count = w .0 .1 .1 .0; spelled = w .1; no-x = w .0 .1 .1 .1 .0; no-y = w .0 .1 .1 .1 .1 })
     (λ s. ((s .known, (s .third, (s .count, (s .no-x, s .no-y)))), s .spelled))
-    (says-and
-    (says-and (says-known (e .kind))
-    (says-and (says-and (says-le (e .third) (k .thirds)) (says-if (says-lt 0 (k .thirds)) (says-lt 0 (e .third))))
-    (says-and (says-eq (length (e .labels)) (k .labels))
-    (says-and (says-if (says-eq (k .number) none) (says-eq (e .x) 0)) (says-unless (says-eq (k .number) pair) (says-eq (e .y) 0))))))
-    (says-all _ _ (λ q. says-spelled (labelNo e q) (k .dotted)) (length (e .labels))))
+    (says-and (says-allowed (e .kind) (e .third) (length (e .labels)) (e .x) (e .y))
+    (says-all _ _ (λ q. says-spelled (labelNo e q) (kindAt (e .kind) .dotted)) (length (e .labels))))
 
 pub says-good : (text b : List ℕ) → Says (goodTest text b) (Good text b)
 unfolding goodTest
@@ -141,6 +146,12 @@ module _ (text : List ℕ) (r : Record) (few : r .count ≤ labelPlaces) where
       ≡ fieldsTest (kindAt (r .kind)) (r .third) (r .count) (r .x) (r .y) && spelledAll text r (kindAt (r .kind) .dotted)
   unfolding soundTest entryOf
   sound-is = rw (count-is, spelled-is (kindAt (r .kind) .dotted)) refl
+
+  pub sound-of : fieldsTest (kindAt (r .kind)) (r .third) (r .count) (r .x) (r .y) ≡ true
+      → EachBelow labelPlaces (λ q. q < r .count → Spelled (kindAt (r .kind) .dotted) (named text r q)) → Sound (entryOf text r)
+  sound-of f w =
+      let all = says-all _ _ (λ q. says-if (says-lt q (r .count)) (says-spelled (named text r q) (kindAt (r .kind) .dotted))) labelPlaces in
+      says-sound (entryOf text r) .so (sound-is ∙ rw (f, all .back w) refl)
 
 -- a framed record is good exactly if its fields are as its kind allows and its labels are spelled as labels
 module _ (text b : List ℕ) (short : length text ≤ longestText) (f : Framed text b) (r : Record) (er : r ≡ decode b) where

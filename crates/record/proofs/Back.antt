@@ -1,22 +1,22 @@
 -- Decode after encode is the identity, on a record and on a list of records: each view and each number comes back from its bytes. Assumes nothing.
-use mathlib.Core.Path.{_≡_, refl, sym, ap, _∙_}
+use mathlib.Core.Path.{_≡_, refl, sym}
 use mathlib.Core.Bool.{Bool, true, false, cond}
 use mathlib.Core.List.{List, [], _∷_, _++_, append-nil}
-use Prim.Native.Nat.{ℕ, zero, suc, _+_, _-_, _*_, _<_}
-use native.Mathlib.Nat.{not-suc-le-zero}
+use Prim.Native.Nat.{ℕ, _+_, _-_, _*_, _<_}
 use native.Mathlib.Omega.{arith}
 use lib.Dec.{lit<}
-use lib.ListN.{length, getD, take, drop, length-append}
-use lib.Seq.{take-at, drop-at, drop-drop}
+use lib.ListN.{length, getD, take, drop}
 use borrow.Author.Tests.{leb-true, leb-false, lt-ltb}
+use Rattle.ground.specs.Lists.{flat}
+use Rattle.ground.proofs.Pieces.{each-of, length-flat, piece-at}
 use Rattle.refusal.specs.First.{EachBelow}
 use Rattle.bytes.proofs.Little.{number-le}
 use Rattle.bytes.specs.Little.{byte}
+use Rattle.text.proofs.Laws.{cond-of}
 use Rattle.record.specs.Entry.{noView, viewOf}
-use Rattle.record.specs.declared.View.{View}
 use Rattle.record.specs.declared.Record.{Record}
 use Rattle.record.specs.Record.{recordBytes, firstGuess, instruction, guess, encode, encodeAll, labelPlaces, encodeView}
-use Rattle.record.specs.Decode.{isGuess, decode, countOf, recordOf, noRecord, decodeAt, Fits, viewAt, placeIn, Short}
+use Rattle.record.specs.Decode.{isGuess, decode, countOf, recordOf, noRecord, decodeAt, Fits, viewAt, placeIn}
 use Rattle.record.proofs.UpTo.{up-to-list, each-place}
 
 -- ---- a record of a list
@@ -29,23 +29,16 @@ part-is bs i =
 
 -- ---- a record
 
-view-back : (v : View) → Short v → viewAt (encodeView v) 0 ≡ v
-view-back v h i = record { start = number-le 2 (v .start) (h .start-fits) i; len = number-le 2 (v .len) (h .len-fits) i }
-
 module _ (r : Record) (rest : List ℕ) (h : Fits r) where
+  view-back : (q : ℕ) → q < labelPlaces → viewAt (encodeView (viewOf r q)) 0 ≡ viewOf r q
+  view-back q b i = record { start = number-le 2 (viewOf r q .start) (h .short q b .start-fits) i; len = number-le 2 (viewOf r q .len) (h .short q b .len-fits) i }
+
   -- each label place, of a guess and of an instruction
   place-back : (g : Bool) → isGuess (r .kind) ≡ g → EachBelow labelPlaces (λ q. placeIn (cond g (guess r) (instruction r) ++ rest) q ≡ viewOf r q)
   place-back true e =
       let none = h .absent (leb-true firstGuess (r .kind) e) in
-      each-place _ (view-back (viewOf r 0) (h .short 0 (lit< tt)))
-      (rw e (sym (none 1 (lit< tt) (lit< tt))))
-      (rw e (sym (none 2 (lit< tt) (lit< tt))))
-      (rw e (sym (none 3 (lit< tt) (lit< tt))))
-  place-back false e =
-      each-place _ (view-back (viewOf r 0) (h .short 0 (lit< tt)))
-      (rw e (view-back (viewOf r 1) (h .short 1 (lit< tt))))
-      (rw e (view-back (viewOf r 2) (h .short 2 (lit< tt))))
-      (rw e (view-back (viewOf r 3) (h .short 3 (lit< tt))))
+      each-place _ (view-back 0 (lit< tt)) (rw e (sym (none 1 (lit< tt) (lit< tt)))) (rw e (sym (none 2 (lit< tt) (lit< tt)))) (rw e (sym (none 3 (lit< tt) (lit< tt))))
+  place-back false e = each-place _ (view-back 0 (lit< tt)) (rw e (view-back 1 (lit< tt))) (rw e (view-back 2 (lit< tt))) (rw e (view-back 3 (lit< tt)))
 
   -- the numbers
   x-back : (g : Bool) → isGuess (r .kind) ≡ g → decode (cond g (guess r) (instruction r) ++ rest) .x ≡ r .x
@@ -61,18 +54,16 @@ module _ (r : Record) (rest : List ℕ) (h : Fits r) where
   fields-back : (g : Bool) → isGuess (r .kind) ≡ g → decode (cond g (guess r) (instruction r) ++ rest) ≡ r
   unfolding decode
   fields-back g e i =
+      let head = cond-of (λ (b : List ℕ). (byte (b ++ rest) 1 ≡ r .kind) × (byte (b ++ rest) 2 ≡ r .third) × (byte (b ++ rest) 3 ≡ r .count)) g
+      (guess r) (instruction r) (λ f. (refl, refl, refl)) (λ f. (refl, refl, refl)) in
       record {
-        kind = head g .0 i;
-        third = head g .1 i;
-        count = head g .2 i;
+        kind = head .0 i;
+        third = head .1 i;
+        count = head .2 i;
         labels = up-to-list labelPlaces (r .labels) noView _ (h .places) (place-back g e) i;
         x = x-back g e i;
         y = y-back g e i;
       }
-    where
-      head : (g : Bool) → let b = cond g (guess r) (instruction r) ++ rest in (byte b 1 ≡ r .kind) × (byte b 2 ≡ r .third) × (byte b 3 ≡ r .count)
-      head true = (refl, refl, refl)
-      head false = (refl, refl, refl)
 
   pub decode-encode : decode (encode r ++ rest) ≡ r
   unfolding encode
@@ -82,28 +73,20 @@ module _ (r : Record) (rest : List ℕ) (h : Fits r) where
 
 pub length-encode : (r : Record) → length (encode r) ≡ recordBytes
 unfolding encode
-length-encode r = sized (isGuess (r .kind))
-  where
-    sized : (g : Bool) → length (cond g (guess r) (instruction r)) ≡ recordBytes
-    sized true = refl
-    sized false = refl
+length-encode r = cond-of (λ (b : List ℕ). length b ≡ recordBytes) (isGuess (r .kind)) (guess r) (instruction r) (λ e. refl) (λ e. refl)
+
+all-flat : (rs : List Record) → encodeAll rs ≡ flat encode rs
+unfolding encodeAll
+all-flat [] = refl
+all-flat (r ∷ rs) = rw (all-flat rs)
 
 -- the bytes of each record stand at its place
 pub record-of-all : (rs : List Record) (i : ℕ) → i < length rs → recordOf (encodeAll rs) i ≡ encode (getD rs i noRecord)
-unfolding encodeAll
-record-of-all [] i h = absurd (not-suc-le-zero h)
-record-of-all (r ∷ rs) zero h = take-at (encode r) (encodeAll rs) recordBytes (length-encode r)
-record-of-all (r ∷ rs) (suc i) h = ap (take recordBytes) behind ∙ record-of-all rs i (omega arith)
-  where
-    behind : drop (suc i * recordBytes) (encode r ++ encodeAll rs) ≡ drop (i * recordBytes) (encodeAll rs)
-    behind =
-        let e : suc i * recordBytes ≡ recordBytes + i * recordBytes = omega arith in
-        rw e (sym (drop-drop (i * recordBytes) recordBytes (encode r ++ encodeAll rs)) ∙ ap (drop (i * recordBytes)) (drop-at (encode r) (encodeAll rs) recordBytes (length-encode r)))
+record-of-all rs i h =
+    rw (all-flat rs, ← append-nil (flat encode rs)) (piece-at encode recordBytes rs [] noRecord (each-of _ rs noRecord (λ j b. length-encode (getD rs j noRecord))) i h)
 
 pub count-all : (rs : List Record) → length (encodeAll rs) ≡ length rs * recordBytes
-unfolding encodeAll
-count-all [] = refl
-count-all (r ∷ rs) = omega (arith, length-append (encode r) (encodeAll rs), length-encode r, count-all rs)
+count-all rs = rw (all-flat rs) (length-flat encode recordBytes rs (each-of _ rs noRecord (λ j b. length-encode (getD rs j noRecord))))
 
 -- each record of a list comes back
 pub decode-all : (rs : List Record) (i : ℕ) → i < length rs → Fits (getD rs i noRecord) → decodeAt (encodeAll rs) i ≡ getD rs i noRecord

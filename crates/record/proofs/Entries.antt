@@ -1,17 +1,18 @@
 -- The entries of a list, place by place, and the test of each place by the kind of a good record. Assumes nothing.
 use mathlib.Core.Path.{_≡_, refl, sym, ap, _∙_}
 use mathlib.Core.Bool.{Bool, true, false, not, _&&_, cond, or-false}
-use mathlib.Core.List.{List, [], _∷_, _++_, append-nil}
+use mathlib.Core.List.{List, [], _∷_, _++_}
 use Prim.Native.Nat.{ℕ, suc, _+_, _%_, _≤_, _<_}
 use native.Mathlib.Nat.{not-suc-le-zero}
 use native.Mathlib.Omega.{arith}
 use lib.Dec.{leb, eqb}
-use lib.ListN.{length, length-append, List·getD-append}
-use lib.Seq.{getD-append-seam}
+use lib.ListN.{length, getD, length-append, List·getD-append}
+use lib.Seq.{getD-append-add}
 use borrow.Author.Tests.{le-leb, lt-ltb, le-ltb, eq-eqb, ne-eqb}
 use Rattle.refusal.specs.First.{EachBelow}
 use Rattle.refusal.proofs.Says.{fails, refuted, says-and, says-le}
 use Rattle.refusal.proofs.Search.{stops-here, goes-through}
+use Rattle.text.proofs.Laws.{cond-of}
 use Rattle.record.specs.declared.formed.Formed.the-variants as formed
 use Rattle.record.specs.Steps.{goodKind, misplaced}
 use Rattle.record.specs.Record.{recordBytes, mostRecords, longestText}
@@ -97,11 +98,12 @@ module _ (text bs : List ℕ) (short : length text ≤ longestText) (few : count
   front : List Entry
   front = upTo (countOf bs) (λ i. entry text (recordOf bs i))
 
-  rest : List Entry
+  -- a piece of a record at the end is one entry more
+  abbrev rest : List Entry
   rest = cond (eqb (length bs % recordBytes) 0) [] (noEntry ∷ [])
 
   list-is : entries text bs ≡ front ++ rest
-  unfolding entries front rest
+  unfolding entries front
   list-is = rw (le-leb (length text) longestText short, le-leb (countOf bs) mostRecords few) refl
 
   front-length : length front ≡ countOf bs
@@ -115,27 +117,21 @@ module _ (text bs : List ℕ) (short : length text ≤ longestText) (few : count
       ∙ List·getD-append front rest noEntry i (omega (arith, front-length, h))
       ∙ getD-up-to (countOf bs) (λ k. entry text (recordOf bs k)) i noEntry h
 
-  -- a piece of a record at the end is one entry more
-  pub whole-length : length bs % recordBytes ≡ 0 → length (entries text bs) ≡ countOf bs
-  unfolding rest
-  whole-length e =
-      let l : front ++ rest ≡ front = rw (eq-eqb (length bs % recordBytes) 0 e) (append-nil front) in
-      ap length (list-is ∙ l) ∙ front-length
+  length-is : length (entries text bs) ≡ countOf bs + length rest
+  length-is = ap length list-is ∙ length-append front rest ∙ rw front-length refl
 
-  piece-is : (length bs % recordBytes ≡ 0 → ⊥) → entries text bs ≡ front ++ noEntry ∷ []
-  unfolding rest
-  piece-is f = list-is ∙ rw (ne-eqb (length bs % recordBytes) 0 f) refl
+  pub whole-length : length bs % recordBytes ≡ 0 → length (entries text bs) ≡ countOf bs
+  whole-length e = length-is ∙ rw (eq-eqb (length bs % recordBytes) 0 e) (omega arith)
 
   pub piece-length : (length bs % recordBytes ≡ 0 → ⊥) → length (entries text bs) ≡ suc (countOf bs)
-  piece-length f =
-      let n : length (front ++ noEntry ∷ []) ≡ length front + 1 = length-append front (noEntry ∷ []) in
-      omega (arith, ap length (piece-is f), n, front-length)
+  piece-length f = length-is ∙ rw (ne-eqb (length bs % recordBytes) 0 f) (omega arith)
 
-  pub piece-none : (length bs % recordBytes ≡ 0 → ⊥) → entryAt (entries text bs) (countOf bs) ≡ noEntry
-  piece-none f =
-      ap (λ (l : List Entry). entryAt l (countOf bs)) (piece-is f)
-      ∙ ap (λ (n : ℕ). entryAt (front ++ noEntry ∷ []) n) (sym front-length)
-      ∙ getD-append-seam front noEntry [] noEntry
+  -- no record stands behind the last
+  pub none-behind : entryAt (entries text bs) (countOf bs) ≡ noEntry
+  none-behind =
+      let n : countOf bs ≡ length front + 0 = omega (arith, front-length) in
+      rw (list-is, n, getD-append-add front rest 0 noEntry)
+      (cond-of (λ (l : List Entry). getD l 0 noEntry ≡ noEntry) (eqb (length bs % recordBytes) 0) [] (noEntry ∷ []) (λ e. refl) (λ e. refl))
 
   pub count-le : countOf bs ≤ length (entries text bs)
-  count-le = omega (arith, ap length list-is, length-append front rest, front-length)
+  count-le = omega (arith, length-is)

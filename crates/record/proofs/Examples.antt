@@ -1,7 +1,8 @@
 -- Lists of records with what is told of them, and what records answer that are asked: one claim, which the definitions compute.
 -- Assumes nothing.
 use mathlib.Core.Path.{_≡_, refl}
-use mathlib.Core.List.{List, [], _∷_, _++_}
+use mathlib.Core.Option.{Option, none, some}
+use mathlib.Core.List.{List, [], _∷_, _++_, map}
 use Prim.Native.Nat.{ℕ}
 use lib.Ieee.{binary64, ofBits}
 use Rattle.ground.specs.Words.{bytes}
@@ -10,7 +11,6 @@ use Rattle.text.specs.Text.{runTo, wordAt, byteOn, labelAt, labelOn, suffixedOn
 use Rattle.record.specs.declared.View.{View}
 use Rattle.record.specs.declared.Record.{Record}
 use Rattle.record.specs.declared.formed.Formed.{Formed}
-use Rattle.record.specs.declared.formed.Formed.the-variants.{WellFormed, Refused}
 use Rattle.record.specs.declared.ask.Asked.{Asked}
 use Rattle.record.specs.declared.ask.Asked.the-variants as asked
 use Rattle.record.specs.declared.ask.Angle.the-variants.{Degrees, Radians}
@@ -18,7 +18,7 @@ use Rattle.record.specs.Record.{encode, encodeAll, oneLabel}
 use Rattle.record.specs.Decode.{decode}
 use Rattle.record.specs.Entry.{Label, entryOf}
 use Rattle.record.specs.Sound.{spelledTest, framedTest, soundTest, goodTest}
-use Rattle.record.specs.Formed.{entry, entries, malformedTest, formedOf, malformedAt}
+use Rattle.record.specs.Formed.{entry, entries, malformedTest, verdict, formedOf, malformedAt}
 use Rattle.record.specs.Ask.{labelOf, angleOf}
 
 -- ---- a text and records over it
@@ -79,26 +79,10 @@ answers =
     ∷ told (point ∷ guess ∷ []) (69 ∷ [])
     ∷ []
 
-abbrev expected : List Formed
+-- the place that each is refused at, if it is
+abbrev expected : List (Option ℕ)
 expected =
-    WellFormed
-    ∷ WellFormed
-    ∷ Refused (malformedAt 0)
-    ∷ Refused (malformedAt 1)
-    ∷ Refused (malformedAt 1)
-    ∷ Refused (malformedAt 1)
-    ∷ WellFormed
-    ∷ Refused (malformedAt 0)
-    ∷ Refused (malformedAt 0)
-    ∷ Refused (malformedAt 0)
-    ∷ Refused (malformedAt 1)
-    ∷ Refused (malformedAt 1)
-    ∷ Refused (malformedAt 0)
-    ∷ Refused (malformedAt 0)
-    ∷ Refused (malformedAt 2)
-    ∷ Refused (malformedAt 2)
-    ∷ Refused (malformedAt 2)
-    ∷ []
+    none ∷ none ∷ some 0 ∷ some 1 ∷ some 1 ∷ some 1 ∷ none ∷ some 0 ∷ some 0 ∷ some 0 ∷ some 1 ∷ some 1 ∷ some 0 ∷ some 0 ∷ some 2 ∷ some 2 ∷ some 2 ∷ []
 
 -- ---- what is asked
 
@@ -111,7 +95,7 @@ angles = angleOf text (encode (angle 1)) ∷ angleOf text (encode (angle 2)) ∷
 -- ---- the claim
 
 pub examples :
-    (answers ≡ expected)
+    (answers ≡ map verdict expected)
     × (labels ≡ bytes "cc" ∷ bytes "cc.center" ∷ [] ∷ [] ∷ [])
     × (angles ≡ asked.Angle (Degrees (ofBits binary64 7)) ∷ asked.Angle (Radians (ofBits binary64 7)) ∷ asked.Refused (malformedAt 0) ∷ [])
 unfolding encode encodeAll decode entryOf runTo wordAt byteOn labelAt labelOn suffixedOn spelledTest framedTest soundTest goodTest entry entries malformedTest lowest formedOf labelOf angleOf

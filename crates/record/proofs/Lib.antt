@@ -1,5 +1,6 @@
 pub mod Back
 pub mod UpTo
+pub mod Found
 pub mod Spelled
 pub mod Agree
 pub mod Entries

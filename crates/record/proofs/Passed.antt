@@ -17,11 +17,11 @@ use Rattle.record.specs.declared.formed.Formed.the-variants as formed
 use Rattle.record.specs.Steps.{goodKind, misplaced}
 use Rattle.record.specs.Record.{recordBytes, mostRecords, longestText}
 use Rattle.record.specs.Decode.{isGuess, countOf, recordOf}
-use Rattle.record.specs.Entry.{Entry, noEntry, entryAt}
+use Rattle.record.specs.Entry.{Entry, entryAt}
 use Rattle.record.specs.Sound.{Good}
 use Rattle.record.specs.Formed.{malformedAt, entries, anyGuess, faultTest, malformedTest, formedOf}
 use Rattle.record.proofs.Agree.{says-good, none-unsound, kind-of-bad}
-use Rattle.record.proofs.Entries.{entry-kind, misplaced-is, told-at, none-told, inside-is, last-is, entry-at, whole-length, piece-length, piece-none, count-le}
+use Rattle.record.proofs.Entries.{entry-kind, misplaced-is, told-at, none-told, inside-is, last-is, entry-at, whole-length, piece-length, none-behind, count-le}
 
 -- what holds before place i
 pub record Passed (es : List Entry) (i : ℕ) (guessed : Bool) : Type 0 where
@@ -60,34 +60,26 @@ module _ (text bs : List ℕ) (short : length text ≤ longestText) (few : count
     whole-end : length bs % recordBytes ≡ 0 → i ≡ length (entries text bs)
     whole-end w = n ∙ sym (whole-length text bs short few w)
 
-    end-whole : length bs % recordBytes ≡ 0 → malformedTest (entries text bs) i ≡ not guessed
-    end-whole w =
-        let l = whole-end w in
-        ap (malformedTest (entries text bs)) l ∙ last-is (entries text bs) ∙ ap not (sym (p .seen ∙ ap (anyGuess (entries text bs)) l))
-
-    end-piece : (length bs % recordBytes ≡ 0 → ⊥) → malformedTest (entries text bs) i ≡ true
-    end-piece f =
-        let e : entryAt (entries text bs) i ≡ noEntry = ap (entryAt (entries text bs)) n ∙ piece-none text bs short few f in
-        inside-is (entries text bs) i (omega (arith, n, piece-length text bs short few f)) ∙ rw (e, none-unsound) refl
-
     end-is : malformedTest (entries text bs) i ≡ not (eqb (length bs % recordBytes) 0) || not guessed
     end-is = go (eqb (length bs % recordBytes) 0) refl
       where
         go : (w : Bool) → eqb (length bs % recordBytes) 0 ≡ w → malformedTest (entries text bs) i ≡ not w || not guessed
-        go true e = end-whole (eqb-true (length bs % recordBytes) 0 e)
-        go false e = end-piece (eqb-false (length bs % recordBytes) 0 e)
+        go true e =
+            let l = whole-end (eqb-true (length bs % recordBytes) 0 e) in
+            ap (malformedTest (entries text bs)) l ∙ last-is (entries text bs) ∙ ap not (sym (p .seen ∙ ap (anyGuess (entries text bs)) l))
+        go false e =
+            inside-is (entries text bs) i (omega (arith, n, piece-length text bs short few (eqb-false (length bs % recordBytes) 0 e)))
+            ∙ rw (n, none-behind text bs short few, none-unsound) refl
 
     pub end-fault : (not (eqb (length bs % recordBytes) 0) || not guessed) ≡ true → formed.Refused (malformedAt (countOf bs)) ≡ formedOf (entries text bs)
     end-fault e = ap (λ (k : ℕ). formed.Refused (malformedAt k)) (sym n) ∙ told-at (entries text bs) i (omega (arith, count-le text bs short few, n)) (end-is ∙ e) (p .each)
 
     pub end-good : (not (eqb (length bs % recordBytes) 0) || not guessed) ≡ false → formed.WellFormed ≡ formedOf (entries text bs)
-    end-good e = none-told (entries text bs) (go (eqb (length bs % recordBytes) 0) refl e)
+    end-good e =
+        let l = whole-end (eqb-true (length bs % recordBytes) 0 (not-piece (eqb (length bs % recordBytes) 0) (not guessed) e)) in
+        none-told (entries text bs)
+        (λ j h. ⊎-elim (λ k. ap (malformedTest (entries text bs)) (k ∙ sym l) ∙ end-is ∙ e) (λ k. p .each j (omega (arith, k, l))) (below-suc h))
       where
-        go : (w : Bool) → eqb (length bs % recordBytes) 0 ≡ w → (not w || not guessed) ≡ false → EachBelow (suc (length (entries text bs))) (λ j. malformedTest (entries text bs) j ≡ false)
-        go true e f j h =
-            let l = whole-end (eqb-true (length bs % recordBytes) 0 e) in
-            ⊎-elim
-            (λ k. ap (malformedTest (entries text bs)) (k ∙ sym l) ∙ end-whole (eqb-true (length bs % recordBytes) 0 e) ∙ f)
-            (λ k. p .each j (omega (arith, k, l)))
-            (below-suc h)
-        go false e f j h = absurd (true≢false f)
+        not-piece : (w x : Bool) → (not w || x) ≡ false → w ≡ true
+        not-piece true x e = refl
+        not-piece false x e = absurd (true≢false e)

@@ -9,16 +9,16 @@ use native.Mathlib.Omega.{arith}
 use native.Mathlib.Decide.{decLt}
 use lib.ListN.{length}
 use Rattle.refusal.specs.First.{EachBelow, Lowest, Nowhere}
-use Rattle.refusal.proofs.Says.{fails, stable, says-and, says-eq, says-le, says-any}
+use Rattle.refusal.proofs.Says.{fails, stable, says-and, says-eq, says-le, says-lt, says-any}
 use Rattle.refusal.proofs.Search.{lowest-of}
 use Rattle.record.specs.declared.formed.Formed.the-variants as formed
 use Rattle.record.specs.Record.{recordBytes, mostRecords, longestText}
 use Rattle.record.specs.Decode.{decode, countOf, recordOf}
 use Rattle.record.specs.Entry.{Entry, noEntry, entryAt}
 use Rattle.record.specs.Sound.{Sound, Good}
-use Rattle.record.specs.Formed.{malformedAt, GuessOf, Parted, WellFormed, entry, entries, GuessEntry, Malformed, unsound, guess-first, after-guess, no-guess, places, formedOf}
+use Rattle.record.specs.Formed.{GuessOf, Parted, WellFormed, entry, entries, GuessEntry, Malformed, unsound, guess-first, after-guess, no-guess, places, formedOf}
 use Rattle.record.proofs.Agree.{says-sound, says-good, none-unsound, kind-of-good}
-use Rattle.record.proofs.Entries.{over, entry-kind, entry-sound, entry-at, whole-length, piece-length, piece-none}
+use Rattle.record.proofs.Entries.{over, entry-kind, entry-sound, entry-at, whole-length, piece-length, none-behind}
 use Rattle.record.proofs.Told.{says-guess, passed-iff}
 
 module _ (text bs : List ℕ) where
@@ -37,12 +37,6 @@ module _ (text bs : List ℕ) where
     kind-at i h g =
         ap (λ (e : Entry). e .kind) (entry-at text bs short few i h) ∙ entry-kind text (recordOf bs i) g ∙ sym (kind-of-good text (recordOf bs i) g)
 
-    guess-of : (i : ℕ) → i < countOf bs → Good text (recordOf bs i) → GuessEntry (entryAt (entries text bs) i) → GuessOf bs i
-    guess-of i h g k = rw (kind-at i h g) at k
-
-    of-guess : (i : ℕ) → i < countOf bs → Good text (recordOf bs i) → GuessOf bs i → GuessEntry (entryAt (entries text bs) i)
-    of-guess i h g k = rw (kind-at i h g) k
-
   -- ---- a list that passes is well formed
 
   module _ (e : formedOf (entries text bs) ≡ formed.WellFormed) where
@@ -50,10 +44,9 @@ module _ (text bs : List ℕ) where
     never = passed-iff (entries text bs) .0 e
 
     limits : (length text ≤ longestText) × (countOf bs ≤ mostRecords)
-    limits = stable (says-and (says-le (length text) longestText) (says-le (countOf bs) mostRecords)) (λ f. told (over text bs (λ s w. f (s, w))))
-      where
-        told : formed.Refused (malformedAt 0) ≡ formedOf (entries text bs) → ⊥
-        told r = let z : _≡_ {A = ℕ} 0 1 = cc in omega arith
+    limits =
+        stable (says-and (says-le (length text) longestText) (says-le (countOf bs) mostRecords))
+        (λ f. let z : _≡_ {A = ℕ} 0 1 = cc (over text bs (λ s w. f (s, w)), e) in omega arith)
 
     is-whole : length bs % recordBytes ≡ 0
     is-whole =
@@ -61,7 +54,7 @@ module _ (text bs : List ℕ) where
         (λ f.
         let n = piece-length text bs (limits .0) (limits .1) f in
         never (countOf bs) (omega (arith, n))
-        (unsound (omega (arith, n)) (λ s. fails (says-sound noEntry) none-unsound (rw (piece-none text bs (limits .0) (limits .1) f) at s))))
+        (unsound (omega (arith, n)) (λ s. fails (says-sound noEntry) none-unsound (rw (none-behind text bs (limits .0) (limits .1)) at s))))
 
     all-whole : length (entries text bs) ≡ countOf bs
     all-whole = whole-length text bs (limits .0) (limits .1) is-whole
@@ -84,24 +77,17 @@ module _ (text bs : List ℕ) where
         let n = all-whole in
         record {
           guesses = k;
-          some-instruction =
-              elim (decLt 0 k) [
-                | yes h ↦ h
-                | no f ↦ absurd (never k (omega (arith, l .inside)) (guess-first (l .inside) (omega (arith, f)) (l .here)))
-              ];
+          some-instruction = stable (says-lt 0 k) (λ f. never k (omega (arith, l .inside)) (guess-first (l .inside) (omega (arith, f)) (l .here)));
           some-guess = omega (arith, l .inside, n);
           before = λ i h g.
               let b : i < countOf bs = omega (arith, h, l .inside, n) in
-              l .below i h (of-guess (limits .0) (limits .1) i b (each-good i b) g);
-          behind = λ i h b. guess-of (limits .0) (limits .1) i b (each-good i b) (later k (l .here) i h (omega (arith, b, n)));
+              l .below i h (rw (kind-at (limits .0) (limits .1) i b (each-good i b)) g);
+          behind = λ i h b.
+              rw (kind-at (limits .0) (limits .1) i b (each-good i b)) at
+              (⊎-elim (λ q. subst (λ (j : ℕ). GuessEntry (entryAt (entries text bs) j)) q (l .here))
+              (λ m. stable (says-guess (entries text bs) i) (λ f. never i (omega (arith, b, n)) (after-guess (omega (arith, b, n)) f (k, m, l .here))))
+              (eq-or-lt-of-le h));
         }
-      where
-        later : (k : ℕ) → GuessEntry (entryAt (entries text bs) k) → (i : ℕ) → k ≤ i → i < length (entries text bs) → GuessEntry (entryAt (entries text bs) i)
-        later k g i h b =
-            ⊎-elim
-            (λ q. subst (λ (j : ℕ). GuessEntry (entryAt (entries text bs) j)) q g)
-            (λ m. stable (says-guess (entries text bs) i) (λ f. never i (omega (arith, b)) (after-guess b f (k, m, g))))
-            (eq-or-lt-of-le h)
 
     well-formed : WellFormed text bs
     well-formed = record { short = limits .0; few = limits .1; whole = is-whole; each = each-good; parted = is-parted }
@@ -116,10 +102,10 @@ module _ (text bs : List ℕ) where
         n = whole-length text bs (w .short) (w .few) (w .whole)
 
         inside : (j : ℕ) → j < countOf bs → GuessEntry (entryAt (entries text bs) j) → GuessOf bs j
-        inside j h = guess-of (w .short) (w .few) j h (w .each j h)
+        inside j h g = rw (kind-at (w .short) (w .few) j h (w .each j h)) at g
 
         outside : (j : ℕ) → w .parted .guesses ≤ j → j < countOf bs → GuessEntry (entryAt (entries text bs) j)
-        outside j h b = of-guess (w .short) (w .few) j b (w .each j b) (w .parted .behind j h b)
+        outside j h b = rw (kind-at (w .short) (w .few) j b (w .each j b)) (w .parted .behind j h b)
 
         go : Malformed (entries text bs) i → ⊥
         go (unsound h f) =

@@ -1,14 +1,13 @@
 -- The bytes of a record whose fields are sound are those of a good record, and an entry of a well formed list is its record with its
 -- labels as text: decode after encode is the identity. Assumes nothing.
 use mathlib.Core.Path.{_≡_, refl, sym, ap, _∙_}
-use mathlib.Core.Bool.{Bool, true, false, cond}
 use mathlib.Core.List.{List, [], append-nil}
 use Prim.Native.Nat.{ℕ, _+_, _≤_, _<_}
-use lib.Dec.{eqb}
 use lib.ListN.{length}
 use borrow.Author.Tests.{le-leb, lt-ltb}
-use Rattle.refusal.specs.First.{EachBelow, allBelow}
+use Rattle.refusal.specs.First.{EachBelow}
 use Rattle.refusal.proofs.Says.{says-eq, says-all}
+use Rattle.text.proofs.Laws.{cond-of}
 use Rattle.bytes.specs.Little.{byte}
 use Rattle.record.specs.declared.Record.{Record}
 use Rattle.record.specs.Record.{mark, firstGuess, instruction, guess, encode, labelPlaces, longestText}
@@ -27,20 +26,12 @@ module _ (text : List ℕ) (r : Record) (fits : Fits r) where
 
   marked : byte (encode r) 0 ≡ mark
   unfolding encode
-  marked = go (isGuess (r .kind))
-    where
-      go : (g : Bool) → byte (cond g (guess r) (instruction r)) 0 ≡ mark
-      go true = refl
-      go false = refl
+  marked = cond-of (λ (b : List ℕ). byte b 0 ≡ mark) (isGuess (r .kind)) (guess r) (instruction r) (λ e. refl) (λ e. refl)
 
   ended : firstGuess ≤ r .kind → EachBelow guessZeros (λ k. byte (encode r) (guessEnd + k) ≡ 0)
   unfolding encode
   ended h =
-      rw (le-leb firstGuess (r .kind) h)
-      (says-all _ _ (λ k. says-eq (byte (guess r) (guessEnd + k)) 0) guessZeros .so zeros)
-    where
-      zeros : allBelow guessZeros (λ k. eqb (byte (guess r) (guessEnd + k)) 0) ≡ true
-      zeros = refl
+      rw (le-leb firstGuess (r .kind) h) (says-all _ _ (λ k. says-eq (byte (guess r) (guessEnd + k)) 0) guessZeros .so refl)
 
   pub good-written : length text ≤ longestText → r .count ≤ labelPlaces → EachBelow labelPlaces (Placed text r) → Sound (entryOf text r) → Good text (encode r)
   good-written short few placed sound =

@@ -1,7 +1,7 @@
 -- The laws of what is read at a place: one byte more of a run or a word, and their ends; what is handed on. Assumes nothing.
-use mathlib.Core.Path.{_≡_, refl}
-use mathlib.Core.Bool.{Bool, true, false}
-use mathlib.Core.List.{List, [], _∷_}
+use mathlib.Core.Path.{_≡_, refl, ap}
+use mathlib.Core.Bool.{Bool, true, false, cond}
+use mathlib.Core.List.{List, [], _∷_, _++_}
 use mathlib.Core.Logic.{⊎-elim}
 use Prim.Native.Nat.{ℕ, _+_, _≤_, _<_}
 use native.Mathlib.Numerals.{add-one}
@@ -12,6 +12,7 @@ use lib.Seq.{drop-cons}
 use borrow.Author.Tests.{eq-eqb, ne-eqb}
 use types.Run.{OneOf}
 use denote.Enum.Declared.{tagOf}
+use Rattle.ground.proofs.Pieces.{Each}
 use Rattle.text.specs.Text.{from, orStand, run, runTo, starts}
 use Rattle.text.specs.declared.Stand.{Stand}
 use Rattle.text.specs.declared.Stand.the-variants.{At, Nothing, Refused}
@@ -30,6 +31,33 @@ pub taken : {X : Type 0} (stand : Stand) (first second : X) → OneOf (0 ∷ 2 �
 taken (At n) first second h = refl
 taken Nothing first second h = absurd (⊎-elim (λ (e : 1 ≡ 0). omega arith) (λ (e : 1 ≡ 2). omega arith) h)
 taken (Refused why) first second h = refl
+
+-- reading stands at a place
+abbrev pub Place : Stand → Type 0
+Place stand = from stand ⊥ (λ n. Unit {0})
+
+pub record Reached (t : Stand) : Type 0 where
+  pub is : Place t
+
+pub here : (n : ℕ) → Reached (At n)
+here n = record { is = tt }
+
+-- what holds of the rest, and of what is read at a place, holds of what is read where reading stands
+pub from-of : {X : Type 0} (Q : X → Type 0) (t : Stand) (rest : X) (read : ℕ → X) → Q rest → ((n : ℕ) → t ≡ At n → Q (read n)) → Q (from t rest read)
+from-of Q (At n) rest read h k = k n refl
+from-of Q Nothing rest read h k = h
+from-of Q (Refused why) rest read h k = h
+
+-- what holds of both holds of the first that reads
+pub either-of : {X : Type 0} (Q : X → Type 0) (t : Stand) (x y : X) → Q x → Q y → Q (orStand t x y)
+either-of Q (At n) x y f g = f
+either-of Q Nothing x y f g = g
+either-of Q (Refused why) x y f g = f
+
+-- what holds of both holds of the one that a test picks
+pub cond-of : {X : Type 0} (Q : X → Type 0) (b : Bool) (x y : X) → (b ≡ true → Q x) → (b ≡ false → Q y) → Q (cond b x y)
+cond-of Q true x y h k = h refl
+cond-of Q false x y h k = k refl
 
 -- ---- a byte by its place
 
@@ -67,6 +95,16 @@ module _ (p : ℕ → Bool) (s : List ℕ) (i : ℕ) where
   pub runTo-ahead : i ≤ runTo p s i
   unfolding runTo
   runTo-ahead = omega arith
+
+-- each byte of a run passes, and what follows the run is the rest of the text
+pub run-each : (p : ℕ → Bool) (l : List ℕ) → Each (λ b. p b ≡ true) (run p l)
+run-each p [] = tt
+run-each p (b ∷ l) = cond-of (Each (λ c. p c ≡ true)) (p b) (b ∷ run p l) [] (λ e. (e, run-each p l)) (λ e. tt)
+
+pub run-split : (p : ℕ → Bool) (l : List ℕ) → run p l ++ drop (length (run p l)) l ≡ l
+run-split p [] = refl
+run-split p (b ∷ l) =
+    cond-of (λ (a : List ℕ). a ++ drop (length a) (b ∷ l) ≡ b ∷ l) (p b) (b ∷ run p l) [] (λ e. ap (λ (z : List ℕ). b ∷ z) (run-split p l)) (λ e. refl)
 
 -- ---- a word
 module _ (w s : List ℕ) (i p : ℕ) where

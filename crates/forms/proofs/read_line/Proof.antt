@@ -3,8 +3,5 @@ use borrow.Author.Needs.{needs}
 use Rattle.forms.proofs.read_line.Statement.{statement}
 use Rattle.forms.proofs.read_line.Tie as tie
 
-returns : tie.Need-returns
-returns c = rw (← c .before .line-at .ensures) (c .hand-out .ensures)
-
 pub read-line-spec : {M : Type 1} → statement M
-read-line-spec = tie.close (tie.spec (λ c κs. search needs) (λ c κs. search needs) returns)
+read-line-spec = tie.close (tie.spec (λ c κs. search needs) (λ c κs. search needs) (λ c. rw (← c .before .line-at .ensures) (c .hand-out .ensures)))

@@ -14,16 +14,11 @@ returns c = rw (lt-ltb _ _ (c .if1 .taken)) (record { count-is = omega arith; th
 
 returns-2 : tie.Need-returns-2
 unfolding sectionOn
-returns-2 c =
-    let a = c .before .before .before .before .args in
-    rw (le-ltb _ _ (c .before .if1 .left)) (nowhere (a .guesses) (a .text .now) (a .own .now) (a .start) (a .stand) (a .number) (c .match .keys2))
-
-section-requires : tie.Need-section-requires
-section-requires c κs = (search needs, search needs, search needs)
+returns-2 c = rw (le-ltb _ _ (c .before .if1 .left)) (nowhere _ _ _ _ (c .before .before .before .before .args .stand) _ (c .match .keys2))
 
 returns-3 : tie.Need-returns-3
 unfolding sectionOn
 returns-3 c = rw (le-ltb _ _ (c .before .before .before .before .before .before .before .before .if1 .left), c .before .before .before .before .before .before .stand .given .1) (c .before .before .section .ensures)
 
 pub read-section-spec : {M : Type 1} → statement M
-read-section-spec = tie.close (tie.spec returns (λ c. search needs) returns-2 section-requires (λ c. search needs) returns-3)
+read-section-spec = tie.close (tie.spec returns (λ c. search needs) returns-2 (λ c κs. (search needs, search needs, search needs)) (λ c. search needs) returns-3)

@@ -45,22 +45,13 @@ pub +nested-spec : {M : Type 1} → statement M
     (λ c κs. search needs)
     (λ c. search needs)
     (λ c κs. search needs)
-    (λ c.
-    let a = c .before .before .before .before .before .args in
-    let w = c .before .before .word in
-    c .number-at .ensures ∙ no-root (a .text .now) (a .at) (w .result) (w .ensures) (a .left) (c .before .match .keys2))
+    (λ c. c .number-at .ensures ∙ no-root _ _ _ (c .before .before .word .ensures) _ (c .before .match .keys2))
     (λ c κs. search needs)
-    (λ c.
-    let a = c .before .before .before .before .before .before .before .before .args in
-    let w = c .before .before .before .before .before .word in
-    let inside = c .before .before .before .inside .given in
-    c .no-number .ensures ∙ too-deep (a .text .now) (a .at) (w .result) (w .ensures) (inside .0 .0) (inside .1) (a .left) (c .before .if1 .taken))
+    (λ c. c .no-number .ensures
+    ∙ too-deep _ _ _ (c .before .before .before .before .before .word .ensures) _ (c .before .before .before .inside .given .1) _ (c .before .if1 .taken))
     (λ c. search needs)
     (λ c κs. omega arith)
     (λ c κs. search needs)
     (λ c.
-    let a = c .before .before .before .before .before .before .before .before .before .args in
-    let w = c .before .before .before .before .before .before .word in
-    let inside = c .before .before .before .before .inside .given in
-    c .close-root .ensures ∙ ap (closed (a .text .now)) (c .before .nested .ensures)
-    ∙ deeper (a .text .now) (a .at) (w .result) (w .ensures) (inside .0 .0) (inside .1) (a .left) (omega arith))
+    c .close-root .ensures ∙ ap (closed _) (c .before .nested .ensures)
+    ∙ deeper _ _ _ (c .before .before .before .before .before .before .word .ensures) _ (c .before .before .before .before .inside .given .1) _ (omega arith))

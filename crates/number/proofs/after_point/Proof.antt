@@ -14,14 +14,10 @@ add-result c =
     omega (arith, inside isPoint (a .text .now) (a .at) refl (eq-eqb _ _ (sym (c .before .byte-at .ensures) ∙ c .if1 .taken)))
 
 returns : tie.Need-returns
-returns c =
-    let a = c .before .before .before .args in
-    after-one isPoint (a .text .now) (a .at) (eq-eqb _ _ (sym (c .before .byte-at .ensures) ∙ c .if1 .taken))
+returns c = after-one isPoint _ _ (eq-eqb _ _ (sym (c .before .byte-at .ensures) ∙ c .if1 .taken))
 
 returns-2 : tie.Need-returns-2
-returns-2 c =
-    let a = c .before .before .before .args in
-    after-none isPoint (a .text .now) (a .at) (ap isPoint (sym (c .before .byte-at .ensures)) ∙ ne-eqb _ _ (c .if1 .left))
+returns-2 c = after-none isPoint _ _ (ap isPoint (sym (c .before .byte-at .ensures)) ∙ ne-eqb _ _ (c .if1 .left))
 
 pub after-point-spec : {M : Type 1} → statement M
 after-point-spec = tie.close (tie.spec (λ c κs. search needs) add-result returns returns-2)

@@ -13,14 +13,10 @@ add-result c =
     omega (arith, inside isSign (a .text .now) (a .at) refl (tested isSign (c .before .before .byte-at .ensures) (c .before .is-sign .ensures) (c .if1 .taken)))
 
 returns : tie.Need-returns
-returns c =
-    let a = c .before .before .before .before .args in
-    after-one isSign (a .text .now) (a .at) (tested isSign (c .before .before .byte-at .ensures) (c .before .is-sign .ensures) (c .if1 .taken))
+returns c = after-one isSign _ _ (tested isSign (c .before .before .byte-at .ensures) (c .before .is-sign .ensures) (c .if1 .taken))
 
 returns-2 : tie.Need-returns-2
-returns-2 c =
-    let a = c .before .before .before .before .args in
-    after-none isSign (a .text .now) (a .at) (tested isSign (c .before .before .byte-at .ensures) (c .before .is-sign .ensures) (c .if1 .left))
+returns-2 c = after-none isSign _ _ (tested isSign (c .before .before .byte-at .ensures) (c .before .is-sign .ensures) (c .if1 .left))
 
 pub after-sign-spec : {M : Type 1} → statement M
 after-sign-spec = tie.close (tie.spec (λ c κs. search needs) (λ c κs. search needs) add-result returns returns-2)

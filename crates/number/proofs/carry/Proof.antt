@@ -4,8 +4,6 @@ use mathlib.Core.Path.{_∙_}
 use Rattle.number.proofs.carry.Statement.{statement}
 use Rattle.number.proofs.carry.Tie as tie
 
-returns : tie.Need-returns
-returns c = let a = c .before .before .args in c .decimal .ensures ∙ c .before .power .ensures (a .m) (a .negative)
-
 pub carry-spec : {M : Type 1} → statement M
-carry-spec = tie.close (tie.spec (λ c κs. search needs) (λ c κs. search needs) returns)
+carry-spec = tie.close (tie.spec (λ c κs. search needs) (λ c κs. search needs)
+    (λ c. let a = c .before .before .args in c .decimal .ensures ∙ c .before .power .ensures (a .m) (a .negative)))

@@ -16,34 +16,23 @@ Inv-loop text at start limit i₀ m₀ i m = Left text at start limit i m
 abbrev μ-loop : tie.MeasureT-loop
 μ-loop text at start limit i₀ m₀ i m = length text - i
 
-loop-holds : tie.Need-loop-holds Inv-loop μ-loop
-loop-holds c = first _ _ _ _ (omega arith)
-
 push-requires : tie.Need-push-requires Inv-loop μ-loop
 push-requires c κs = (omega arith, omega arith, sym (c .before .is-digit .ensures) ∙ c .if1 .taken)
 
 loop-again : tie.Need-loop-again Inv-loop μ-loop
 loop-again c =
-    let a = c .before .before .before .before .before .before .before .args in
-    let l = c .before .before .before .before .before .loop in
     rw (c .push .ensures)
-    (more (a .text .now) (a .at) (a .start) (a .limit) (l .i) (l .m) (l .inv) (omega arith)
-    (sym (c .before .before .is-digit .ensures) ∙ c .before .if1 .taken))
+    (more _ _ _ _ _ _ (c .before .before .before .before .before .loop .inv) (omega arith) (sym (c .before .before .is-digit .ensures) ∙ c .before .if1 .taken))
 
 returns : tie.Need-returns Inv-loop μ-loop
 returns c =
-    let a = c .before .before .before .before .before .before .args in
     let l = c .before .before .before .before .loop in
-    done (a .text .now) (a .at) (a .start) (a .limit) (l .i) (l .m) (l .inv)
-    (run-stop isDigit (a .text .now) (l .i) (omega arith) (sym (c .before .is-digit .ensures) ∙ c .if1 .left))
+    done _ _ _ _ _ _ (l .inv)
+    (run-stop isDigit (c .before .before .before .before .before .before .args .text .now) (l .i) (omega arith) (sym (c .before .is-digit .ensures) ∙ c .if1 .left))
 
 returns-2 : tie.Need-returns-2 Inv-loop μ-loop
-returns-2 c =
-    let a = c .before .before .before .args in
-    let l = c .before .loop in
-    done (a .text .now) (a .at) (a .start) (a .limit) (l .i) (l .m) (l .inv) (run-end isDigit (a .text .now) (l .i) (omega arith))
+returns-2 c = done _ _ _ _ _ _ (c .before .loop .inv) (run-end isDigit (c .before .before .before .args .text .now) (c .before .loop .i) (omega arith))
 
 pub digits-at-spec : {M : Type 1} → statement M
-digits-at-spec =
-    tie.close (tie.spec Inv-loop μ-loop loop-holds (λ c. search needs) (λ c κs. search needs) push-requires (λ c. search needs) (λ c. search needs)
-    loop-again returns returns-2)
+digits-at-spec = tie.close (tie.spec Inv-loop μ-loop (λ c. first _ _ _ _ (omega arith)) (λ c. search needs) (λ c κs. search needs) push-requires (λ c. search needs)
+    (λ c. search needs) loop-again returns returns-2)

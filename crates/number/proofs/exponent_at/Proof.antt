@@ -15,25 +15,16 @@ add-sign c =
 
 returns : tie.Need-returns
 returns c =
-    let a = c .before .before .before .before .before .before .before .args in
-    let d = c .before .digits-at in
-    let f = c .before .before .after-sign in
     let e = tested isExponent (c .before .before .before .before .before .byte-at .ensures) (c .before .before .before .before .is-exponent .ensures) (c .before .before .before .if1 .taken) in
-    missing (a .text .now) (a .at) (f .result) (d .result .value) (d .result .next) e (f .ensures) (d .ensures) (c .if2 .taken)
+    missing _ _ _ _ _ e (c .before .before .after-sign .ensures) (c .before .digits-at .ensures) (c .if2 .taken)
 
 returns-2 : tie.Need-returns-2
 returns-2 c =
-    let a = c .before .before .before .before .before .before .before .before .args in
-    let d = c .before .before .digits-at in
-    let f = c .before .before .before .after-sign in
     let e = tested isExponent (c .before .before .before .before .before .before .byte-at .ensures) (c .before .before .before .before .before .is-exponent .ensures) (c .before .before .before .before .if1 .taken) in
-    rw (c .byte-at2 .ensures)
-    (present (a .text .now) (a .at) (f .result) (d .result .value) (d .result .next) e (f .ensures) (d .ensures) (c .before .if2 .left))
+    rw (c .byte-at2 .ensures) (present _ _ _ _ _ e (c .before .before .before .after-sign .ensures) (c .before .before .digits-at .ensures) (c .before .if2 .left))
 
 returns-3 : tie.Need-returns-3
-returns-3 c =
-    let a = c .before .before .before .before .args in
-    no-exponent (a .text .now) (a .at) (tested isExponent (c .before .before .byte-at .ensures) (c .before .is-exponent .ensures) (c .if1 .left))
+returns-3 c = no-exponent _ _ (tested isExponent (c .before .before .byte-at .ensures) (c .before .is-exponent .ensures) (c .if1 .left))
 
 pub exponent-at-spec : {M : Type 1} → statement M
 exponent-at-spec =

@@ -10,40 +10,30 @@ use Rattle.number.proofs.number_at.Tie as tie
 
 returns : tie.Need-returns
 returns c =
-    let a = c .before .before .before .before .before .before .args in
-    let first = c .before .before .before .before .after-sign in
     c .no-number .ensures
-    ∙ word (a .text .now) (a .at) (first .result) (first .ensures)
+    ∙ word _ _ _ (c .before .before .before .before .after-sign .ensures)
     (tested isWord (c .before .before .before .byte-at .ensures) (c .before .before .is-word .ensures) (c .before .if1 .taken))
 
 returns-2 : tie.Need-returns-2
 returns-2 c =
-    let a = c .before .before .before .before .before .before .before .before .args in
-    let first = c .before .before .before .before .before .before .after-sign in
-    let d = c .before .before .mantissa-at in
     c .no-number2 .ensures
-    ∙ nothing (a .text .now) (a .at) (first .result) (d .result .m) (d .result .count) (d .result .end) (d .result .none) (first .ensures)
+    ∙ nothing _ _ _ _ _ _ _ (c .before .before .before .before .before .before .after-sign .ensures)
     (tested isWord (c .before .before .before .before .before .byte-at .ensures) (c .before .before .before .before .is-word .ensures) (c .before .before .before .if1 .left))
-    (d .ensures) (c .before .if2 .taken)
+    (c .before .before .mantissa-at .ensures) (c .before .if2 .taken)
 
 -- fewer digits than bytes stand in a text, and those are below 2 ^ 63
 scale-by-requires : tie.Need-scale-by-requires
 scale-by-requires c κs =
-    let start = c .before .before .before .before .before .before .before .before .before in
-    let d = c .before .before .before .mantissa-at in
-    omega (arith, start .good .0 .1, few (start .args .text .now) (c .before .before .before .before .before .before .before .after-sign .result) (d .result .m) (d .result .count) (d .result .end) (d .result .none) (d .ensures))
+    omega (arith, c .before .before .before .before .before .before .before .before .before .good .0 .1, few _ _ _ _ _ _ (c .before .before .before .mantissa-at .ensures))
 
 returns-3 : tie.Need-returns-3
 returns-3 c =
-    let start = c .before .before .before .before .before .before .before .before .before .before in
-    let a = start .args in
-    let first = c .before .before .before .before .before .before .before .before .after-sign in
-    let d = c .before .before .before .before .mantissa-at in
+    let d = c .before .before .before .before .mantissa-at .ensures in
     rw (
-      ← number (a .text .now) (a .at) (first .result) (d .result .m) (d .result .count) (d .result .end) (d .result .none) (first .ensures)
+      ← number _ _ _ _ _ _ _ (c .before .before .before .before .before .before .before .before .after-sign .ensures)
           (tested isWord (c .before .before .before .before .before .before .before .byte-at .ensures) (c .before .before .before .before .before .before .is-word .ensures) (c .before .before .before .before .before .if1 .left))
-          (d .ensures) (c .before .before .before .if2 .left)
-          (omega (arith, start .good .0 .1, few (a .text .now) (first .result) (d .result .m) (d .result .count) (d .result .end) (d .result .none) (d .ensures))),
+          d (c .before .before .before .if2 .left)
+          (omega (arith, c .before .before .before .before .before .before .before .before .before .before .good .0 .1, few _ _ _ _ _ _ d)),
       ← c .before .byte-at2 .ensures,
       ← c .before .before .exponent-at .ensures,
     )

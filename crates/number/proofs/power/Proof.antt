@@ -14,9 +14,6 @@ returns c =
     rw (c .before .if1 .taken)
     (rw (add-zero (a .size)) at (below-outside m negative (a .size) 0 (c .if2 .taken)) ∙ sym (below-outside m negative (a .size) (a .count) (c .if2 .taken)))
 
-returns-2 : tie.Need-returns-2
-returns-2 c = λ m negative. rw (c .before .if1 .taken)
-
 returns-3 : tie.Need-returns-3
 returns-3 c = λ m negative. rw (c .before .if1 .left, le-leb _ _ (c .if3 .taken))
 
@@ -24,4 +21,4 @@ returns-4 : tie.Need-returns-4
 returns-4 c = λ m negative. rw (c .before .if1 .left, lt-leb _ _ (c .if3 .left))
 
 pub power-spec : {M : Type 1} → statement M
-power-spec = tie.close (tie.spec returns (λ c. search needs) returns-2 returns-3 (λ c. search needs) returns-4)
+power-spec = tie.close (tie.spec returns (λ c. search needs) (λ c. λ m negative. rw (c .before .if1 .taken)) returns-3 (λ c. search needs) returns-4)

@@ -10,9 +10,6 @@ use Rattle.text.proofs.join.Tie as tie
 returns : tie.Need-returns
 returns c = handed (c .before .args .second .then) _ _ (c .match .keys2)
 
-returns-2 : tie.Need-returns-2
-returns-2 c = rw (c .before .before .then .given .1)
-
 returns-3 : tie.Need-returns-3
 returns-3 c =
     let g = c .before .before .then .given in
@@ -20,4 +17,4 @@ returns-3 c =
     rw (g .1, none)
 
 pub join-spec : {M : Type 1} → statement M
-join-spec = tie.close (tie.spec (λ c. search needs) returns returns-2 returns-3)
+join-spec = tie.close (tie.spec (λ c. search needs) returns (λ c. rw (c .before .before .then .given .1)) returns-3)

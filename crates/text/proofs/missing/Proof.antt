@@ -7,8 +7,5 @@ use Rattle.text.proofs.missing.Tie as tie
 returns : tie.Need-returns
 returns c = handed (c .before .args .stand) _ _ (c .match .keys2)
 
-returns-2 : tie.Need-returns-2
-returns-2 c = rw (c .before .stand .given .1)
-
 pub missing-spec : {M : Type 1} → statement M
-missing-spec = tie.close (tie.spec (λ c. search needs) returns returns-2)
+missing-spec = tie.close (tie.spec (λ c. search needs) returns (λ c. rw (c .before .stand .given .1)))

@@ -4,9 +4,7 @@ use Rattle.text.specs.Text.{suffixedOn}
 use Rattle.text.proofs.opt_suffix.Statement.{statement}
 use Rattle.text.proofs.opt_suffix.Tie as tie
 
-returns : tie.Need-returns
-unfolding suffixedOn
-returns c = rw (← c .before .before .byte .ensures, ← c .before .parse-label .ensures) (c .join .ensures)
-
 pub opt-suffix-spec : {M : Type 1} → statement M
-opt-suffix-spec = tie.close (tie.spec (λ c κs. search needs) (λ c κs. search needs) (λ c κs. search needs) returns)
+unfolding suffixedOn
+opt-suffix-spec = tie.close (tie.spec (λ c κs. search needs) (λ c κs. search needs) (λ c κs. search needs)
+    (λ c. rw (← c .before .before .byte .ensures, ← c .before .parse-label .ensures) (c .join .ensures)))

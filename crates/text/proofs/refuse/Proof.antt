@@ -3,8 +3,5 @@ use borrow.Author.Needs.{needs}
 use Rattle.text.proofs.refuse.Statement.{statement}
 use Rattle.text.proofs.refuse.Tie as tie
 
-returns : tie.Need-returns
-returns c = rw (← c .before .missing .ensures) (c .or-stand .ensures)
-
 pub refuse-spec : {M : Type 1} → statement M
-refuse-spec = tie.close (tie.spec (λ c κs. search needs) (λ c κs. search needs) returns)
+refuse-spec = tie.close (tie.spec (λ c κs. search needs) (λ c κs. search needs) (λ c. rw (← c .before .missing .ensures) (c .or-stand .ensures)))

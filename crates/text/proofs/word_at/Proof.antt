@@ -17,9 +17,6 @@ Inv-loop text w at p₀ i₀ p i = (starts w (drop at text) ≡ starts (drop i w
 abbrev μ-loop : tie.MeasureT-loop
 μ-loop text w at p₀ i₀ p i = length w - i
 
-loop-holds : tie.Need-loop-holds Inv-loop μ-loop
-loop-holds c = (refl, omega arith, omega arith)
-
 loop-again : tie.Need-loop-again Inv-loop μ-loop
 loop-again c =
     let l = c .before .before .before .before .before .loop in
@@ -44,6 +41,5 @@ returns-3 c =
     rw (l .inv .0 ∙ starts-end _ _ (l .i) (l .p) (c .loop-test .left)) (ap At (omega arith))
 
 pub word-at-spec : {M : Type 1} → statement M
-word-at-spec =
-    tie.close (tie.spec Inv-loop μ-loop loop-holds returns (λ c. search needs) (λ c. search needs) returns-2 (λ c. search needs) (λ c. search needs)
-    (λ c. search needs) loop-again returns-3)
+word-at-spec = tie.close (tie.spec Inv-loop μ-loop (λ c. (refl, omega arith, omega arith)) returns (λ c. search needs) (λ c. search needs) returns-2 (λ c. search needs)
+    (λ c. search needs) (λ c. search needs) loop-again returns-3)

@@ -7,26 +7,18 @@ use Rattle.forms.proofs.declarations.declaration.Statement.{statement}
 use Rattle.forms.proofs.declarations.declaration.Tie as tie
 
 returns : tie.Need-returns
-returns c =
-    let a = c .before .before .before .before .args in
-    c .declare .ensures ∙ first-declared (a .text .now) (a .at) 112 (sym (c .before .before .byte-at .ensures) ∙ c .before .if1 .taken) refl refl
+returns c = c .declare .ensures ∙ first-declared _ _ 112 (sym (c .before .before .byte-at .ensures) ∙ c .before .if1 .taken) refl refl
 
 returns-2 : tie.Need-returns-2
-returns-2 c =
-    let a = c .before .before .before .before .before .args in
-    c .declare2 .ensures ∙ second-declared (a .text .now) (a .at) 99 (sym (c .before .before .before .byte-at .ensures) ∙ c .before .if2 .taken) refl refl
+returns-2 c = c .declare2 .ensures ∙ second-declared _ _ 99 (sym (c .before .before .before .byte-at .ensures) ∙ c .before .if2 .taken) refl refl
 
 returns-3 : tie.Need-returns-3
-returns-3 c =
-    let a = c .before .before .before .before .before .before .args in
-    c .declare3 .ensures ∙ third-declared (a .text .now) (a .at) 97 (sym (c .before .before .before .before .byte-at .ensures) ∙ c .before .if3 .taken) refl refl
+returns-3 c = c .declare3 .ensures ∙ third-declared _ _ 97 (sym (c .before .before .before .before .byte-at .ensures) ∙ c .before .if3 .taken) refl refl
 
 returns-4 : tie.Need-returns-4
 returns-4 c =
-    let a = c .before .before .before .before .before .before .args in
-    let b = c .before .before .before .before .byte-at in
     rw (c .no-label .ensures)
-    (none-declared (a .text .now) (a .at) (b .result) (sym (b .ensures)) (ne-eqb _ _ (c .before .before .before .if1 .left)) (ne-eqb _ _ (c .before .before .if2 .left)) (ne-eqb _ _ (c .before .if3 .left)))
+    (none-declared _ _ _ (sym (c .before .before .before .before .byte-at .ensures)) (ne-eqb _ _ (c .before .before .before .if1 .left)) (ne-eqb _ _ (c .before .before .if2 .left)) (ne-eqb _ _ (c .before .if3 .left)))
 
 pub declaration-spec : {M : Type 1} → statement M
 declaration-spec = tie.close (tie.spec (λ c κs. search needs) (λ c κs. search needs) returns (λ c κs. search needs) returns-2 (λ c κs. search needs) returns-3 (λ c κs. search needs) returns-4)

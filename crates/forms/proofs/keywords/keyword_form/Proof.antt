@@ -8,7 +8,7 @@ use Rattle.forms.proofs.keywords.keyword_form.Statement.{statement}
 use Rattle.forms.proofs.keywords.keyword_form.Tie as tie
 
 keyword-requires : tie.Need-keyword-requires
-keyword-requires c κs = word-fits (wordOf (c .before .before .before .args .kind)) (c .word-of .result) (c .word-of .ensures)
+keyword-requires c κs = word-fits (wordOf (c .before .before .before .args .kind)) _ (c .word-of .ensures)
 
 returns : tie.Need-returns
 unfolding keywordOn
@@ -22,7 +22,7 @@ returns c =
       ← labels,
       ← sort,
       ← gap,
-      ← word-begins (wordOf k) (c .before .before .before .before .before .before .before .before .before .before .before .before .before .before .before .before .before .word-of .result) (c .before .before .before .before .before .before .before .before .before .before .before .before .before .before .before .before .before .word-of .ensures),
+      ← word-begins (wordOf k) _ (c .before .before .before .before .before .before .before .before .before .before .before .before .before .before .before .before .before .word-of .ensures),
       ← c .before .before .before .before .before .before .before .before .before .before .before .before .before .before .before .before .keyword .ensures,
       ← c .before .before .before .before .before .before .before .before .before .before .before .before .before .before .before .ws .ensures,
       ← c .before .before .before .before .before .before .before .before .before .before .before .before .before .before .byte .ensures,

@@ -5,7 +5,7 @@ use Prim.Native.Nat.{_-_}
 use lib.ListN.{drop}
 use Rattle.text.specs.declared.Stand.the-variants.{At}
 use Rattle.forms.specs.Forms.{keywordKinds, firstOf}
-use Rattle.forms.proofs.Begin.{skipped}
+use Rattle.forms.proofs.Begin.{skip}
 use Rattle.text.proofs.Laws.{taken}
 use Rattle.forms.proofs.Table.{keyword-long}
 use Rattle.forms.proofs.Order.{first-here, first-more, first-none}
@@ -19,34 +19,27 @@ abbrev μ-loop : tie.MeasureT-loop
 μ-loop text at kinds array i₀ i = 18 - i
 
 loop-holds : tie.Need-loop-holds Inv-loop μ-loop
-loop-holds c =
-    let a = c .before .before .before .args in
-    skipped (a .text .now) (a .at) (c .skip-to .result) (rw (← c .before .byte-at .ensures) (c .skip-to .ensures))
+loop-holds c = skip _ _ (c .skip-to .result) keywordKinds (rw (← c .before .byte-at .ensures) (c .skip-to .ensures))
 
 try-keyword-requires : tie.Need-try-keyword-requires Inv-loop μ-loop
 try-keyword-requires c κs = (c .before .before .before .before .before .pre, keyword-long (c .before .loop .i) (c .loop-test .taken))
 
 returns : tie.Need-returns Inv-loop μ-loop
 returns c =
-    let a = c .before .before .before .before .before .before .before .args in
     let l = c .before .before .before .loop in
     let k = c .before .try-keyword in
-    rw (l .inv ∙ first-here (a .text .now) (At (a .at)) keywordKinds (l .i) (c .before .before .loop-test .taken), ← k .ensures)
+    rw (l .inv ∙ first-here _ _ keywordKinds (l .i) (c .before .before .loop-test .taken), ← k .ensures)
     (taken (k .result .then) _ _ (c .match .keys2))
 
 loop-again : tie.Need-loop-again Inv-loop μ-loop
 loop-again c =
-    let a = c .before .before .before .before .before .before .before .before .args in
     let l = c .before .before .before .before .loop in
     l .inv
-    ∙ first-more (a .text .now) (At (a .at)) keywordKinds (l .i) (c .before .before .before .loop-test .taken)
+    ∙ first-more _ _ keywordKinds (l .i) (c .before .before .before .loop-test .taken)
     (rw (← c .before .before .try-keyword .ensures) (c .enum-told .given .1))
 
 returns-2 : tie.Need-returns-2 Inv-loop μ-loop
-returns-2 c =
-    let a = c .before .before .before .before .before .before .args in
-    let l = c .before .before .loop in
-    rw (c .no-line .ensures) (sym (l .inv ∙ first-none (a .text .now) (At (a .at)) keywordKinds (l .i) (c .before .loop-test .left)))
+returns-2 c = rw (c .no-line .ensures) (sym (c .before .before .loop .inv ∙ first-none _ _ keywordKinds _ (c .before .loop-test .left)))
 
 pub keyword-forms-spec : {M : Type 1} → statement M
 keyword-forms-spec = tie.close (tie.spec Inv-loop μ-loop (λ c κs. search needs) (λ c κs. search needs) loop-holds (λ c. search needs) try-keyword-requires (λ c. search needs) returns (λ c. search needs) (λ c. search needs) loop-again (λ c κs. search needs) returns-2)

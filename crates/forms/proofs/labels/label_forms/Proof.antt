@@ -18,32 +18,23 @@ returns-2 c = rw (← c .before .before .before .before .before .before .parse-l
 returns-3 : tie.Need-returns-3
 unfolding labelFormsOn
 returns-3 c =
-    let a = c .before .before .before .before .before .before .before .before .before .args in
     let l = c .before .before .before .before .before .before .before .parse-label in
-    let g = c .before .before .before .before .before .then .given in
     rw (← l .ensures)
-    (c .keyword-forms .ensures
-    ∙ no-label-form (a .text .now) (a .at) (l .result) (g .0 .0) 40 (g .1) (sym (c .before .before .before .byte-at .ensures) ∙ c .before .if2 .taken) refl refl refl)
+    (c .keyword-forms .ensures ∙ no-label-form _ _ (l .result) _ 40 (c .before .before .before .before .before .then .given .1) (sym (c .before .before .before .byte-at .ensures) ∙ c .before .if2 .taken) refl refl refl)
 
 returns-4 : tie.Need-returns-4
 unfolding labelFormsOn
 returns-4 c =
-    let a = c .before .before .before .before .before .before .before .before .before .before .args in
     let l = c .before .before .before .before .before .before .before .before .parse-label in
-    let g = c .before .before .before .before .before .before .then .given in
     rw (← l .ensures)
-    (c .keyword-forms2 .ensures
-    ∙ no-label-form (a .text .now) (a .at) (l .result) (g .0 .0) 95 (g .1) (sym (c .before .before .before .before .byte-at .ensures) ∙ c .before .if3 .taken) refl refl refl)
+    (c .keyword-forms2 .ensures ∙ no-label-form _ _ (l .result) _ 95 (c .before .before .before .before .before .before .then .given .1) (sym (c .before .before .before .before .byte-at .ensures) ∙ c .before .if3 .taken) refl refl refl)
 
 returns-5 : tie.Need-returns-5
 unfolding labelFormsOn
 returns-5 c =
-    let a = c .before .before .before .before .before .before .before .before .before .before .args in
     let l = c .before .before .before .before .before .before .before .before .parse-label in
-    let g = c .before .before .before .before .before .before .then .given in
-    let b = c .before .before .before .before .byte-at in
     rw (← l .ensures)
-    (c .assign-forms .ensures ∙ no-point (a .text .now) (a .at) (l .result) (g .0 .0) (b .result) (g .1) (sym (b .ensures)) (ne-eqb _ _ (c .before .before .before .if1 .left)))
+    (c .assign-forms .ensures ∙ no-point _ _ (l .result) _ _ (c .before .before .before .before .before .before .then .given .1) (sym (c .before .before .before .before .byte-at .ensures)) (ne-eqb _ _ (c .before .before .before .if1 .left)))
 
 pub label-forms-spec : {M : Type 1} → statement M
 label-forms-spec = tie.close (tie.spec (λ c κs. search needs) (λ c. search needs) (λ c κs. search needs) returns (λ c κs. search needs) (λ c κs. search needs) returns-2 (λ c κs. search needs) returns-3 (λ c κs. search needs) returns-4 (λ c κs. search needs) returns-5)

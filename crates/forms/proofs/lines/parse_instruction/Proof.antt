@@ -9,8 +9,8 @@ use Rattle.forms.proofs.lines.parse_instruction.Tie as tie
 
 returns : tie.Need-returns
 returns c =
-    let a = c .before .before .before .before .args in
-    rw (by-declaration, ← c .before .before .ws .ensures, c .no-line .ensures) (halted (c .before .before .ws .result) _ (c .before .match .keys2) ∙ forms-nowhere (a .text .now) (c .before .before .ws .result) (c .before .match .keys2))
+    let t = c .before .before .ws .result in
+    rw (by-declaration, ← c .before .before .ws .ensures, c .no-line .ensures) (halted t _ (c .before .match .keys2) ∙ forms-nowhere _ t (c .before .match .keys2))
 
 returns-2 : tie.Need-returns-2
 returns-2 c =

@@ -4,9 +4,6 @@ use Rattle.forms.specs.Forms.{aroundOn}
 use Rattle.forms.proofs.pieces.around.Statement.{statement}
 use Rattle.forms.proofs.pieces.around.Tie as tie
 
-returns : tie.Need-returns
-unfolding aroundOn
-returns c = rw (← c .before .before .ws .ensures, ← c .before .byte .ensures) (c .ws2 .ensures)
-
 pub around-spec : {M : Type 1} → statement M
-around-spec = tie.close (tie.spec (λ c κs. search needs) (λ c κs. search needs) (λ c κs. search needs) returns)
+unfolding aroundOn
+around-spec = tie.close (tie.spec (λ c κs. search needs) (λ c κs. search needs) (λ c κs. search needs) (λ c. cc))

@@ -3,8 +3,5 @@ use borrow.Author.Needs.{needs}
 use Rattle.forms.proofs.pieces.labelled.Statement.{statement}
 use Rattle.forms.proofs.pieces.labelled.Tie as tie
 
-returns : tie.Need-returns
-returns c = rw (← c .before .view-from .ensures) (c .one-label .ensures)
-
 pub labelled-spec : {M : Type 1} → statement M
-labelled-spec = tie.close (tie.spec (λ c κs. search needs) (λ c κs. search needs) returns)
+labelled-spec = tie.close (tie.spec (λ c κs. search needs) (λ c κs. search needs) (λ c. cc))

@@ -8,9 +8,6 @@ returns : tie.Need-returns
 unfolding moreOn
 returns c = rw (c .before .before .if1 .taken, ← c .before .around .ensures) (c .parse-label .ensures)
 
-returns-2 : tie.Need-returns-2
-unfolding moreOn
-returns-2 c = rw (c .before .if1 .left) (c .no-label .ensures)
-
 pub more-spec : {M : Type 1} → statement M
-more-spec = tie.close (tie.spec (λ c κs. search needs) (λ c κs. search needs) returns (λ c κs. search needs) returns-2)
+unfolding moreOn
+more-spec = tie.close (tie.spec (λ c κs. search needs) (λ c κs. search needs) returns (λ c κs. search needs) (λ c. rw (c .before .if1 .left) (c .no-label .ensures)))

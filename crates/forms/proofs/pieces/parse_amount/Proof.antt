@@ -5,10 +5,6 @@ use Rattle.forms.specs.Forms.{amountOn}
 use Rattle.forms.proofs.pieces.parse_amount.Statement.{statement}
 use Rattle.forms.proofs.pieces.parse_amount.Tie as tie
 
-returns : tie.Need-returns
-unfolding amountOn
-returns c = rw (eq-eqb _ _ (c .if1 .taken))
-
 returns-2 : tie.Need-returns-2
 unfolding amountOn
 returns-2 c =
@@ -44,4 +40,5 @@ returns-4 c =
     (c .parse-angle .ensures)
 
 pub parse-amount-spec : {M : Type 1} → statement M
-parse-amount-spec = tie.close (tie.spec returns (λ c κs. search needs) (λ c κs. search needs) (λ c κs. search needs) returns-2 (λ c κs. search needs) (λ c κs. search needs) returns-3 (λ c κs. search needs) returns-4)
+unfolding amountOn
+parse-amount-spec = tie.close (tie.spec (λ c. rw (eq-eqb _ _ (c .if1 .taken))) (λ c κs. search needs) (λ c κs. search needs) (λ c κs. search needs) returns-2 (λ c κs. search needs) (λ c κs. search needs) returns-3 (λ c κs. search needs) returns-4)

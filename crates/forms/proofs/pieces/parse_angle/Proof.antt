@@ -4,9 +4,6 @@ use Rattle.forms.specs.Forms.{angleOn}
 use Rattle.forms.proofs.pieces.parse_angle.Statement.{statement}
 use Rattle.forms.proofs.pieces.parse_angle.Tie as tie
 
-returns : tie.Need-returns
-unfolding angleOn
-returns c = rw (← c .before .before .before .parse-number .ensures, ← c .either .ensures)
-
 pub parse-angle-spec : {M : Type 1} → statement M
-parse-angle-spec = tie.close (tie.spec (λ c κs. search needs) (λ c. search needs) (λ c. search needs) (λ c κs. search needs) returns)
+unfolding angleOn
+parse-angle-spec = tie.close (tie.spec (λ c κs. search needs) (λ c. search needs) (λ c. search needs) (λ c κs. search needs) (λ c. cc))

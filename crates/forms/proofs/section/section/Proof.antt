@@ -19,57 +19,41 @@ abbrev μ-loop : tie.MeasureT-loop
 μ-loop text first guesses number own₀ start kinds at₀ last₀ n₀ k₀ own at last n k = suc (length text) - k
 
 loop-holds : tie.Need-loop-holds Inv-loop μ-loop
-loop-holds c = let a = c .before .before .args in first (a .guesses) (a .text .now) (a .own .now) (a .start) (a .first) (a .number)
+loop-holds c = first _ _ _ _ _ _
 
 same-length : tie.Need-same-length Inv-loop μ-loop
 same-length c = c .before .before .before .before .before .loop .inv .size
 
 returns : tie.Need-returns Inv-loop μ-loop
 returns c =
-    let a = c .before .before .before .before .before .before .before .before .args in
-    let l = c .before .before .before .before .before .loop in
-    let line = c .before .before .before .line-at in
     rw (c .or-stand .ensures, c .before .stop .ensures)
-    (halt (a .guesses) (a .text .now) (a .own .now) (a .start) (linesOn (a .guesses) (a .text .now) (At (a .first)) (a .number)) (l .own) (l .n) (At (l .at)) (stopOf (a .first) (a .number) (l .k) (l .last)) (l .k) (l .inv)
-    (line .result) (line .ensures) (c .before .before .before .before .loop-test .taken) (c .before .before .match .keys2))
-
-put-line-requires : tie.Need-put-line-requires Inv-loop μ-loop
-put-line-requires c κs = omega arith
+    (halt _ _ _ _ _ _ _ _ _ _ (c .before .before .before .before .before .loop .inv) (c .before .before .before .line-at .result) (c .before .before .before .line-at .ensures)
+    (c .before .before .before .before .loop-test .taken) (c .before .before .match .keys2))
 
 same-length-2 : tie.Need-same-length-2 Inv-loop μ-loop
 same-length-2 c = c .before .before .before .before .put-line .kept .0 ∙ c .before .before .before .before .before .before .before .before .before .before .before .loop .inv .size
 
 returns-2 : tie.Need-returns-2 Inv-loop μ-loop
 returns-2 c =
-    let a = c .before .before .before .before .before .before .before .before .before .before .before .before .before .before .args in
-    let l = c .before .before .before .before .before .before .before .before .before .before .before .loop in
     let line = c .before .before .before .before .before .before .before .before .before .line-at in
     let p = c .before .before .before .before .put-line in
     let at = c .before .before .before .before .before .before .before .then .given in
     rw (p .ensures .next-is, p .ensures .buffer)
-    (last (a .guesses) (a .text .now) (a .own .now) (a .start) (linesOn (a .guesses) (a .text .now) (At (a .first)) (a .number)) (l .own) (l .n) (At (l .at)) (stopOf (a .first) (a .number) (l .k) (l .last)) (l .k) (l .inv)
+    (last _ _ _ _ _ _ _ _ _ _ (c .before .before .before .before .before .before .before .before .before .before .before .loop .inv)
     (line .result) (line .ensures) (c .before .before .before .before .before .before .before .before .before .before .loop-test .taken) (at .0 .0) (at .1) (rw (c .before .newline .ensures) at (c .match2 .keys2)))
 
 loop-again : tie.Need-loop-again Inv-loop μ-loop
 loop-again c =
-    let a = c .before .before .before .before .before .before .before .before .before .before .before .before .before .before .before .before .args in
     let l = c .before .before .before .before .before .before .before .before .before .before .before .before .before .loop in
     let line = c .before .before .before .before .before .before .before .before .before .before .before .line-at in
     let p = c .before .before .before .before .before .before .put-line in
     let at = c .before .before .before .before .before .before .before .before .before .then .given in
     rw (p .ensures .next-is, p .ensures .buffer, ← c .before .next .given .1, c .before .before .before .newline .ensures, ne-eqb (l .k + 1) 0 (λ (e : l .k + 1 ≡ 0). omega arith))
-    (turn (a .guesses) (a .text .now) (a .own .now) (a .start) (linesOn (a .guesses) (a .text .now) (At (a .first)) (a .number)) (l .own) (l .n) (At (l .at)) (stopOf (a .first) (a .number) (l .k) (l .last)) (l .k) (l .inv)
+    (turn _ _ _ _ _ _ _ _ _ _ (l .inv)
     (line .result) (line .ensures) (c .before .before .before .before .before .before .before .before .before .before .before .before .loop-test .taken) (at .0 .0) (at .1))
 
-same-length-3 : tie.Need-same-length-3 Inv-loop μ-loop
-same-length-3 c = c .before .before .loop .inv .size
-
 returns-3 : tie.Need-returns-3 Inv-loop μ-loop
-returns-3 c =
-    let a = c .before .before .before .before .before .args in
-    let l = c .before .before .loop in
-    rw (c .stop2 .ensures)
-    (over (a .guesses) (a .text .now) (a .own .now) (a .start) (linesOn (a .guesses) (a .text .now) (At (a .first)) (a .number)) (l .own) (l .n) (At (l .at)) (stopOf (a .first) (a .number) (l .k) (l .last)) (l .k) (l .inv) (c .before .loop-test .left))
+returns-3 c = rw (c .stop2 .ensures) (over _ _ _ _ _ _ _ _ _ _ (c .before .before .loop .inv) (c .before .loop-test .left))
 
 pub section-spec : {M : Type 1} → statement M
-section-spec = tie.close (tie.spec Inv-loop μ-loop loop-holds (λ c κs. search needs) (λ c. search needs) (λ c κs. search needs) (λ c κs. search needs) same-length returns put-line-requires (λ c κs. search needs) (λ c. search needs) same-length-2 returns-2 (λ c. search needs) (λ c. search needs) loop-again (λ c κs. search needs) same-length-3 returns-3)
+section-spec = tie.close (tie.spec Inv-loop μ-loop loop-holds (λ c κs. search needs) (λ c. search needs) (λ c κs. search needs) (λ c κs. search needs) same-length returns (λ c κs. omega arith) (λ c κs. search needs) (λ c. search needs) same-length-2 returns-2 (λ c. search needs) (λ c. search needs) loop-again (λ c κs. search needs) (λ c. c .before .before .loop .inv .size) returns-3)

@@ -10,8 +10,5 @@ add-result c = omega (arith, rw (c .before .told .given .1) at (c .before .befor
 returns : tie.Need-returns
 returns c = let g = c .before .told .given .1 in (rw g, omega (arith, rw g at (c .before .before .before .pre)))
 
-returns-2 : tie.Need-returns-2
-returns-2 c = (rw (c .enum-told .given .1), omega arith)
-
 pub count-of-spec : {M : Type 1} → statement M
-count-of-spec = tie.close (tie.spec (λ c. search needs) add-result (λ c. search needs) returns returns-2)
+count-of-spec = tie.close (tie.spec (λ c. search needs) add-result (λ c. search needs) returns (λ c. (rw (c .enum-told .given .1), omega arith)))

@@ -17,12 +17,6 @@ Inv-loop text i₀ i = highAt text ≡ runTo (λ b. ltb b 128) text i
 abbrev μ-loop : tie.MeasureT-loop
 μ-loop text i₀ i = length text - i
 
-returns : tie.Need-returns Inv-loop μ-loop
-returns c = sym (c .before .largest .ensures (c .if1 .taken))
-
-loop-holds : tie.Need-loop-holds Inv-loop μ-loop
-loop-holds c = refl
-
 loop-again : tie.Need-loop-again Inv-loop μ-loop
 loop-again c =
     let l = c .before .before .before .loop in
@@ -37,4 +31,4 @@ returns-3 : tie.Need-returns-3 Inv-loop μ-loop
 returns-3 c = sym (c .before .loop .inv ∙ runTo-end (λ b. ltb b 128) _ _ (c .loop-test .left))
 
 pub high-at-spec : {M : Type 1} → statement M
-high-at-spec = tie.close (tie.spec Inv-loop μ-loop (λ c κs. search needs) returns loop-holds (λ c. search needs) (λ c. search needs) (λ c. search needs) loop-again returns-2 returns-3)
+high-at-spec = tie.close (tie.spec Inv-loop μ-loop (λ c κs. search needs) (λ c. sym (c .before .largest .ensures (c .if1 .taken))) (λ c. refl) (λ c. search needs) (λ c. search needs) (λ c. search needs) loop-again returns-2 returns-3)

@@ -18,9 +18,6 @@ Inv-loop text m₀ i₀ m i = (i ≤ length text) × (m < 128 → highAt text �
 abbrev μ-loop : tie.MeasureT-loop
 μ-loop text m₀ i₀ m i = length text - i
 
-loop-holds : tie.Need-loop-holds Inv-loop μ-loop
-loop-holds c = (omega arith, λ h. refl)
-
 loop-again : tie.Need-loop-again Inv-loop μ-loop
 loop-again c =
     let l = c .before .before .before .loop in
@@ -37,4 +34,5 @@ returns c =
     λ h. l .inv .1 h ∙ runTo-end (λ b. ltb b 128) _ (l .i) (c .loop-test .left) ∙ e
 
 pub largest-spec : {M : Type 1} → statement M
-largest-spec = tie.close (tie.spec Inv-loop μ-loop loop-holds (λ c. search needs) (λ c κs. search needs) (λ c. search needs) (λ c. search needs) loop-again returns)
+largest-spec = tie.close (tie.spec Inv-loop μ-loop (λ c. (omega arith, λ h. refl)) (λ c. search needs) (λ c κs. search needs) (λ c. search needs) (λ c. search needs)
+    loop-again returns)

@@ -17,10 +17,7 @@ tell-requires c κs =
 
 count-of-requires : tie.Need-count-of-requires
 count-of-requires c κs =
-    let a = c .before .before .before .before .before .before .before .args in
-    let p = c .before .before .read-page in
-    let zeros = c .before .before .before .before .zeros in
-    few (a .whole) (a .text .now) (a .records .now) (zeros .result) (p .last .1 .0) (p .result .instructions) (p .result .guesses) (p .result .then) (p .ensures) (zeros .ensures) (c .tell .result) (c .tell .ensures)
+    few _ _ (c .before .before .before .before .before .before .before .args .records .now) _ _ _ _ _ (c .before .before .read-page .ensures) (c .before .before .before .before .zeros .ensures) _ (c .tell .ensures)
 
 array-share-prefix-own : tie.Need-array-share-prefix-own
 array-share-prefix-own c = omega (arith, c .before .before .before .before .before .before .zeros .ensures, c .before .before .before .before .read-page .kept .1 .0)
@@ -32,12 +29,8 @@ slice-aggregate-put c =
 
 returns : tie.Need-returns
 returns c =
-    let a = c .before .before .before .before .before .before .before .before .before .before .before .before .before .args in
-    let p = c .before .before .before .before .before .before .before .before .read-page in
-    let zeros = c .before .before .before .before .before .before .before .before .before .before .zeros in
-    let tell = c .before .before .before .before .before .before .tell in
-    ended (a .whole) (a .text .now) (a .records .now) (zeros .result) (p .last .1 .0) (p .result .instructions) (p .result .guesses) (p .result .then) (p .ensures) (zeros .ensures) (tell .result)
-    (c .before .before .put .last .0) (tell .ensures) (rw (← c .before .before .before .before .before .count-of .ensures .0) (c .before .before .put .ensures .buffer))
+    ended _ _ _ _ _ _ _ _ (c .before .before .before .before .before .before .before .before .read-page .ensures) (c .before .before .before .before .before .before .before .before .before .before .zeros .ensures) _ _ (c .before .before .before .before .before .before .tell .ensures)
+    (rw (← c .before .before .before .before .before .count-of .ensures .0) (c .before .before .put .ensures .buffer))
 
 pub read-into-spec : {M : Type 1} → statement M
 read-into-spec = tie.close (tie.spec (λ c κs. search needs) (λ c. search needs) (λ c κs. search needs) tell-requires count-of-requires (λ c. search needs) array-share-prefix-own slice-aggregate-put (λ c κs. search needs) (λ c. search needs) returns)

@@ -8,24 +8,15 @@ use Rattle.reader.proofs.page.read_page.Tie as tie
 
 cast-read-section : tie.Need-cast-read-section
 cast-read-section c =
-    let start = c .before .before .before .before .before .before .before .before .before .before .before .before .before .before .before .before .before in
-    let h = c .before .before .before .before .before .before .before .before .before .before .before .before .refuse in
-    let is = c .before .before .before .before .before .before .before .before .before .before .read-section in
-    omega (arith, start .pre, few (start .args .text .now) (start .pre) (h .result) (start .args .own .now) (is .last .1 .1 .1 .1 .0) (is .result) (is .ensures))
+    let pre = c .before .before .before .before .before .before .before .before .before .before .before .before .before .before .before .before .before .pre in
+    omega (arith, pre, few _ pre _ _ _ _ (c .before .before .before .before .before .before .before .before .before .before .read-section .ensures))
 
 returns : tie.Need-returns
 returns c =
-    let start = c .before .before .before .before .before .before .before .before .before .before .before .before .before .before .before .before .before .before .before .before .before .before in
-    let h = c .before .before .before .before .before .before .before .before .before .before .before .before .before .before .before .before .before .refuse in
-    let is = c .before .before .before .before .before .before .before .before .before .before .before .before .before .before .before .read-section in
-    let gap = c .before .before .before .before .before .before .before .before .before .before .refuse2 in
-    let g = c .before .before .before .before .before .before .refuse3 in
-    let gs = c .before .before .before .before .read-section2 in
     rw (c .ws2 .ensures, c .before .opt-newline .ensures)
-    (paged (start .args .text .now) (start .pre) (h .result) (start .args .own .now) (is .last .1 .1 .1 .1 .0) (is .result) (is .ensures)
-    (g .result) (gs .last .1 .1 .1 .1 .0) (gs .result) (gs .ensures)
-    (rw (← c .before .before .before .before .before .before .before .before .before .before .before .before .before .before .before .before .before .before .heading .ensures) (h .ensures))
-    (rw (← c .before .before .before .before .before .before .before .before .before .before .before .before .newline .ensures, ← c .before .before .before .before .before .before .before .before .before .before .before .newline2 .ensures, ← gap .ensures, ← c .before .before .before .before .before .before .before .before .before .ws .ensures, ← c .before .before .before .before .before .before .before .heading2 .ensures) (g .ensures)))
+    (paged _ (c .before .before .before .before .before .before .before .before .before .before .before .before .before .before .before .before .before .before .before .before .before .before .pre) _ _ _ _ (c .before .before .before .before .before .before .before .before .before .before .before .before .before .before .before .read-section .ensures) _ _ _ (c .before .before .before .before .read-section2 .ensures)
+    (rw (← c .before .before .before .before .before .before .before .before .before .before .before .before .before .before .before .before .before .before .heading .ensures) (c .before .before .before .before .before .before .before .before .before .before .before .before .before .before .before .before .before .refuse .ensures))
+    (rw (← c .before .before .before .before .before .before .before .before .before .before .before .before .newline .ensures, ← c .before .before .before .before .before .before .before .before .before .before .before .newline2 .ensures, ← c .before .before .before .before .before .before .before .before .before .before .refuse2 .ensures, ← c .before .before .before .before .before .before .before .before .before .ws .ensures, ← c .before .before .before .before .before .before .before .heading2 .ensures) (c .before .before .before .before .before .before .refuse3 .ensures)))
 
 pub read-page-spec : {M : Type 1} → statement M
 read-page-spec = tie.close (tie.spec (λ c. search needs) (λ c κs. search needs) (λ c κs. search needs) (λ c κs. search needs) (λ c κs. search needs) (λ c κs. search needs) (λ c κs. search needs) (λ c κs. search needs) (λ c. search needs) (λ c κs. search needs) (λ c κs. search needs) cast-read-section (λ c κs. search needs) (λ c κs. search needs) (λ c. search needs) (λ c κs. search needs) (λ c. search needs) returns)

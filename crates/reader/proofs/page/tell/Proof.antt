@@ -9,8 +9,6 @@ returns c = rw (c .before .before .then .given .1) (c .tell-end .ensures)
 returns-2 : tie.Need-returns-2
 returns-2 c = rw (c .before .enum-told .given .1) (c .refused .ensures)
 
-returns-3 : tie.Need-returns-3
-returns-3 c = rw (c .before .then2 .given .1)
-
 pub tell-spec : {M : Type 1} → statement M
-tell-spec = tie.close (tie.spec (λ c. search needs) (λ c κs. search needs) (λ c. search needs) (λ c κs. search needs) (λ c. search needs) returns returns-2 returns-3)
+tell-spec = tie.close (tie.spec (λ c. search needs) (λ c κs. search needs) (λ c. search needs) (λ c κs. search needs) (λ c. search needs) returns returns-2
+    (λ c. rw (c .before .then2 .given .1)))

@@ -25,12 +25,10 @@ is-angle c = sym (sort-is (c .before)) ∙ c .if1 .left
 returns : tie.Need-returns
 returns c = ap asked.Refused (c .malformed-at .ensures) ∙ no-angle _ _ (λ e. c .before .if1 .taken (sort-is (c .before .before) ∙ e))
 
-fields-requires : tie.Need-fields-requires
-fields-requires c κs = angle-good _ _ (is-angle c) .framed .whole
-
 returns-2 : tie.Need-returns-2
 returns-2 c =
     ap asked.Angle (c .angle-in .ensures ∙ ap angleIn (c .before .fields .ensures)) ∙ some-angle _ _ (is-angle (c .before .before))
 
 pub angle-of-spec : {M : Type 1} → statement M
-angle-of-spec = tie.close (tie.spec (λ c κs. search needs) (λ c κs. search needs) (λ c κs. search needs) returns fields-requires (λ c κs. search needs) returns-2)
+angle-of-spec = tie.close (tie.spec (λ c κs. search needs) (λ c κs. search needs) (λ c κs. search needs) returns (λ c κs. angle-good _ _ (is-angle c) .framed .whole)
+    (λ c κs. search needs) returns-2)

@@ -4,9 +4,7 @@ use Rattle.record.specs.Decode.{decode}
 use Rattle.record.proofs.decode.instruction_fields.Statement.{statement}
 use Rattle.record.proofs.decode.instruction_fields.Tie as tie
 
-returns : tie.Need-returns
-unfolding decode
-returns c = rw (c .before .before .before .before .before .before .before .before .before .pre .1) (cc)
-
 pub instruction-fields-spec : {M : Type 1} → statement M
-instruction-fields-spec = tie.close (tie.spec (λ c κs. search needs) (λ c κs. search needs) (λ c κs. search needs) (λ c κs. search needs) (λ c. search needs) (λ c. search needs) (λ c. search needs) (λ c κs. search needs) returns)
+unfolding decode
+instruction-fields-spec = tie.close (tie.spec (λ c κs. search needs) (λ c κs. search needs) (λ c κs. search needs) (λ c κs. search needs) (λ c. search needs)
+    (λ c. search needs) (λ c. search needs) (λ c κs. search needs) (λ c. rw (c .before .before .before .before .before .before .before .before .before .pre .1) (cc)))

@@ -26,9 +26,6 @@ returns c = ap formed.Refused (c .malformed-at .ensures) ∙ over _ _ (λ short 
 returns-2 : tie.Need-returns-2 Inv-loop μ-loop
 returns-2 c = ap formed.Refused (c .malformed-at2 .ensures) ∙ over _ _ (λ short few. omega (arith, c .before .if2 .taken, few))
 
-loop-holds : tie.Need-loop-holds Inv-loop μ-loop
-loop-holds c = (omega arith, start _)
-
 -- the entry, from behind the call in the loop
 abbrev start-at : tie.After-good-kind Inv-loop μ-loop → tie.Start Inv-loop μ-loop
 start-at c = c .before .before .before .before .before .before .before .before .before
@@ -39,34 +36,29 @@ kind-is c = c .good-kind .ensures ∙ ap (goodKind (start-at c .args .text .now)
 
 returns-3 : tie.Need-returns-3 Inv-loop μ-loop
 returns-3 c =
-    let d = c .before .before .before in
-    let a = start-at d .args in
-    let l = d .before .before .before .before .loop in
+    let a = start-at (c .before .before .before) .args in
     ap formed.Refused (c .malformed-at3 .ensures)
-    ∙ fault (a .text .now) (a .records .now) (omega arith) (omega arith) (l .i) (l .guessed) (l .inv .1) (omega arith) (d .good-kind .result) (kind-is d)
+    ∙ fault (a .text .now) (a .records .now) (omega arith) (omega arith) _ _ (c .before .before .before .before .before .before .before .loop .inv .1) (omega arith) _ (kind-is (c .before .before .before))
     (sym (c .before .before .at-fault .ensures) ∙ c .before .if3 .taken)
 
 loop-again : tie.Need-loop-again Inv-loop μ-loop
 loop-again c =
-    let a = start-at (c .before .before) .args in
-    let l = c .before .before .before .before .before .before .loop in (
+    let a = start-at (c .before .before) .args in (
       omega arith,
-      more (a .text .now) (a .records .now) (omega arith) (omega arith) (l .i) (l .guessed) (l .inv .1) (omega arith) (c .before .before .good-kind .result) (kind-is (c .before .before))
+      more (a .text .now) (a .records .now) (omega arith) (omega arith) _ _ (c .before .before .before .before .before .before .loop .inv .1) (omega arith) _ (kind-is (c .before .before))
           (sym (c .before .at-fault .ensures) ∙ c .if3 .left),
     )
 
 returns-4 : tie.Need-returns-4 Inv-loop μ-loop
 returns-4 c =
     let a = c .before .before .before .before .before .before .before .before .args in
-    let l = c .before .before .before .loop in
     ap formed.Refused (c .malformed-at4 .ensures)
-    ∙ end-fault (a .text .now) (a .records .now) (omega arith) (omega arith) (l .i) (l .guessed) (l .inv .1) (omega arith) (c .before .if4 .taken)
+    ∙ end-fault (a .text .now) (a .records .now) (omega arith) (omega arith) _ _ (c .before .before .before .loop .inv .1) (omega arith) (c .before .if4 .taken)
 
 returns-5 : tie.Need-returns-5 Inv-loop μ-loop
 returns-5 c =
     let a = c .before .before .before .before .before .before .before .args in
-    let l = c .before .before .loop in
-    end-good (a .text .now) (a .records .now) (omega arith) (omega arith) (l .i) (l .guessed) (l .inv .1) (omega arith) (c .if4 .left)
+    end-good (a .text .now) (a .records .now) (omega arith) (omega arith) _ _ (c .before .before .loop .inv .1) (omega arith) (c .if4 .left)
 
 pub well-formed-spec : {M : Type 1} → statement M
-well-formed-spec = tie.close (tie.spec Inv-loop μ-loop (λ c κs. search needs) returns (λ c κs. search needs) returns-2 loop-holds (λ c. omega arith) (λ c. omega arith) (λ c. omega arith) (λ c. omega arith) (λ c. omega arith) (λ c κs. search needs) (λ c κs. search needs) (λ c κs. search needs) returns-3 (λ c. omega arith) (λ c. omega arith) loop-again (λ c κs. search needs) returns-4 returns-5)
+well-formed-spec = tie.close (tie.spec Inv-loop μ-loop (λ c κs. search needs) returns (λ c κs. search needs) returns-2 (λ c. (omega arith, start _)) (λ c. omega arith) (λ c. omega arith) (λ c. omega arith) (λ c. omega arith) (λ c. omega arith) (λ c κs. search needs) (λ c κs. search needs) (λ c κs. search needs) returns-3 (λ c. omega arith) (λ c. omega arith) loop-again (λ c κs. search needs) returns-4 returns-5)

@@ -5,10 +5,6 @@ use Rattle.record.specs.Kinds.{cell}
 use Rattle.record.proofs.kinds.look.Statement.{statement}
 use Rattle.record.proofs.kinds.look.Tie as tie
 
-returns : tie.Need-returns
-unfolding cell
-returns c = rw (le-ltb _ _ (c .if1 .taken))
-
 returns-2 : tie.Need-returns-2
 unfolding cell
 returns-2 c = rw (lt-ltb _ _ (c .before .if1 .left), le-ltb _ _ (c .if2 .taken))
@@ -18,4 +14,5 @@ unfolding cell
 returns-3 c = rw (lt-ltb _ _ (c .before .before .if1 .left), lt-ltb _ _ (c .before .if2 .left))
 
 pub look-spec : {M : Type 1} → statement M
-look-spec = tie.close (tie.spec returns returns-2 (λ c. search needs) (λ c. search needs) (λ c. search needs) returns-3)
+unfolding cell
+look-spec = tie.close (tie.spec (λ c. rw (le-ltb _ _ (c .if1 .taken))) returns-2 (λ c. search needs) (λ c. search needs) (λ c. search needs) returns-3)

@@ -3,8 +3,5 @@ use borrow.Author.Needs.{needs}
 use Rattle.record.proofs.kinds.may_begin.Statement.{statement}
 use Rattle.record.proofs.kinds.may_begin.Tie as tie
 
-returns : tie.Need-returns
-returns c = rw (c .before .word-of .ensures)
-
 pub may-begin-spec : {M : Type 1} → statement M
-may-begin-spec = tie.close (tie.spec (λ c κs. search needs) (λ c. search needs) (λ c. search needs) returns)
+may-begin-spec = tie.close (tie.spec (λ c κs. search needs) (λ c. search needs) (λ c. search needs) (λ c. rw (c .before .word-of .ensures)))

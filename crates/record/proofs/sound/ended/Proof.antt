@@ -4,8 +4,5 @@ use mathlib.Core.Path.{refl}
 use Rattle.record.proofs.sound.ended.Statement.{statement}
 use Rattle.record.proofs.sound.ended.Tie as tie
 
-returns : tie.Need-returns
-returns c = refl
-
 pub ended-spec : {M : Type 1} → statement M
-ended-spec = tie.close (tie.spec (λ c. search needs) (λ c. search needs) (λ c. search needs) (λ c. search needs) returns)
+ended-spec = tie.close (tie.spec (λ c. search needs) (λ c. search needs) (λ c. search needs) (λ c. search needs) (λ c. refl))
