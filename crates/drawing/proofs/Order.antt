@@ -2,7 +2,7 @@
 use mathlib.Core.Path.{_≡_, refl, sym, ap, _∙_, subst}
 use mathlib.Core.Bool.{Bool, false}
 use mathlib.Core.Option.{Option, none, some}
-use mathlib.Core.List.{List, map}
+use mathlib.Core.List.{List, [], _∷_, map}
 use Prim.Native.Nat.{ℕ, suc, _+_, _≤_, _<_}
 use native.Mathlib.Nat.{le-refl}
 use native.Mathlib.Numerals.{add-one}
@@ -14,14 +14,14 @@ use Rattle.refusal.specs.Refusal.{refusal}
 use Rattle.refusal.specs.First.{passed, refused, tell, first, lowest, orElse}
 use Rattle.refusal.proofs.Search.{none-iff}
 use Rattle.record.specs.declared.formed.Formed.the-variants as formed
-use Rattle.record.specs.Kinds.{newPoint, newCircle, newArc, firstRule, lastRule, pairGuess, numberGuess}
+use Rattle.record.specs.Kinds.{newPoint, newCircle, newArc, firstRule, lastRule}
 use Rattle.record.specs.Decode.{countOf, decodeAt}
 use Rattle.record.specs.Entry.{Entry, noEntry}
 use Rattle.refusal.specs.declared.Refusal.{Refusal}
-use Rattle.record.specs.Formed.{WellFormed, entries, Malformed, places, malformedTest, verdict, formedOf, malformedAt}
+use Rattle.record.specs.Formed.{WellFormed, entries, Malformed, places, malformedTest, verdict, formedOf}
 use Rattle.record.proofs.Told.{says-malformed, passed-iff}
 use Rattle.record.proofs.WellFormed.{well-formed-iff}
-use Rattle.index.specs.Labels.{drawn, kindNo, within, lowestOr}
+use Rattle.index.specs.Labels.{drawn, kindNo, lowestOr}
 use Rattle.index.proofs.Drawn.{drawn-length, drawn-kind, entries-drawn}
 use Rattle.index.proofs.First.{is-some, is-none}
 use Rattle.drawing.specs.declared.Checked.the-variants as checked
@@ -79,27 +79,15 @@ lowest-last : (n : ℕ) (p : ℕ → Bool) → p n ≡ false → lowest (suc n) 
 unfolding lowest
 lowest-last n p e = rw e (or-none (lowest n p))
 
-module _ (es : List Entry) where
-  twice-end : (low high : ℕ) → within low high 0 ≡ false → twice es low high (length es) ≡ false
-  unfolding twice
-  twice-end low high e = rw (past es, e) refl
+-- an order whose faults hold not at the last place is told without it
+first-last : (order : List Fault) (t : Fault → ℕ → Bool) (n : ℕ) → Each (λ f. t f n ≡ false) order → first order t (suc n) ≡ first order t n
+unfolding first
+first-last [] t n e = refl
+first-last (f ∷ order) t n e = rw (lowest-last n (t f) (e .0), first-last order t n (e .1))
 
-  wrong-label-end : wrongLabelTest es (length es) ≡ false
-  unfolding wrongLabelTest
-  wrong-label-end = rw (past es) refl
-
-  no-such-part-end : noSuchPartTest es (length es) ≡ false
-  unfolding noSuchPartTest
-  no-such-part-end = rw (past es) refl
-
-  without-guess-end : withoutGuessTest es (length es) ≡ false
-  unfolding withoutGuessTest
-  without-guess-end = rw (past es) refl
-
-  shorter : first behind30 (test es) (suc (length es)) ≡ first behind30 (test es) (length es)
-  unfolding first
-  shorter =
-      rw (lowest-last (length es) (twice es newPoint newArc) (twice-end newPoint newArc refl), lowest-last (length es) (wrongLabelTest es) wrong-label-end, lowest-last (length es) (noSuchPartTest es) no-such-part-end, lowest-last (length es) (twice es pairGuess numberGuess) (twice-end pairGuess numberGuess refl), lowest-last (length es) (withoutGuessTest es) without-guess-end) refl
+shorter : (es : List Entry) → first behind30 (test es) (suc (length es)) ≡ first behind30 (test es) (length es)
+unfolding twice wrongLabelTest noSuchPartTest withoutGuessTest
+shorter es = first-last behind30 (test es) (length es) (rw (past es), (rw (past es), (rw (past es), (rw (past es), (rw (past es), tt)))))
 
 -- ---- 30
 
@@ -109,13 +97,8 @@ unfolding checkedOf checkOf first formedOf
 told-30 es r e = go (lowest (places es) (malformedTest es)) e
   where
     go : (o : Option ℕ) → verdict o ≡ formed.Refused r → checked.Refused r ≡ answer es (tell malformed o (first behind30 (test es) (places es)))
-    go (some j) q =
-        let m : malformedAt j ≡ r = cc in
-        rw (← m) refl
-    go none q = absurd (never q)
-      where
-        never : formed.WellFormed ≡ formed.Refused r → ⊥
-        never r = let z : _≡_ {A = ℕ} 0 1 = cc in omega arith
+    go (some j) q = cc
+    go none q = let z : _≡_ {A = ℕ} 0 1 = cc in absurd (omega arith)
 
 module _ (text bs : List ℕ) (w : WellFormed text bs) where
   -- the check of a well formed list is that of the order behind 30, over its records

@@ -24,7 +24,7 @@ abbrev μ-loop : tie.MeasureT-loop
 loop-holds : tie.Need-loop-holds Inv-loop μ-loop
 loop-holds c =
     let s = c .before .before .before .before in
-    (omega arith, check-is (s .args .text .now) (s .args .records .now) (s .pre .0))
+    (omega arith, check-is _ _ (s .pre .0))
 
 -- what was looked for by the number of fault k
 found : (c : tie.After-lowest-bad Inv-loop μ-loop) → let a = c .before .before .before .before .before .before .before .args in
@@ -37,26 +37,19 @@ found c =
 returns : tie.Need-returns Inv-loop μ-loop
 returns c =
     let s = c .before .before .before .before .before .before .before .before in
-    let a = s .args in
     let l = c .before .before .before .loop in
-    told-behind (a .text .now) (a .records .now) (s .pre .0) (l .k) (c .before .lowest-bad .result) (omega arith)
-    (l .inv .1 ∙ stops (test (drawn (a .text .now) (a .records .now))) (countOf (a .records .now)) (l .k) (omega arith) (c .before .lowest-bad .result) (found (c .before)) (omega arith))
+    told-behind _ _ (s .pre .0) (l .k) _ (omega arith) (l .inv .1 ∙ stops _ _ (l .k) (omega arith) _ (found (c .before)) (omega arith))
 
 loop-again : tie.Need-loop-again Inv-loop μ-loop
 loop-again c =
-    let a = c .before .before .before .before .before .before .before .before .args in
-    let l = c .before .before .before .loop in (
-      omega arith,
-      l .inv .1 ∙ goes-on (test (drawn (a .text .now) (a .records .now))) (countOf (a .records .now)) (l .k) (omega arith) (c .before .lowest-bad .result) (found (c .before)) (omega arith),
-    )
+    let l = c .before .before .before .loop in
+    (omega arith, l .inv .1 ∙ goes-on _ _ (l .k) (omega arith) _ (found (c .before)) (omega arith))
 
 returns-2 : tie.Need-returns-2 Inv-loop μ-loop
 returns-2 c =
     let s = c .before .before .before .before .before .before .before .before .before .before in
-    let a = s .args in
     let l = c .before .before .before .before .before .loop in
-    told-none (a .text .now) (a .records .now) (s .pre .0) _ _ _ _
-    (l .inv .1 ∙ ends (test (drawn (a .text .now) (a .records .now))) (countOf (a .records .now)) (l .k) (omega arith))
+    told-none _ _ (s .pre .0) _ _ _ _ (l .inv .1 ∙ ends _ _ (l .k) (omega arith))
     (c .before .before .before .count .ensures) (c .before .before .count2 .ensures) (c .before .count3 .ensures) (c .count4 .ensures)
 
 pub check-by-spec : {M : Type 1} → statement M
