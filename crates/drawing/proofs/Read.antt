@@ -1,15 +1,16 @@
 -- Each test of the check by what the code reads: the kind of a record, its label, what is found by the chains, and what the tests of
 -- the parts answer. Assumes nothing.
 use mathlib.Core.Path.{_≡_, refl, sym, ap, _∙_}
+use mathlib.Core.Logic.{⊎-elim}
 use mathlib.Core.Bool.{Bool, true, false, not, _&&_, _||_}
 use mathlib.Core.List.{List, [], _++_}
 use Prim.Native.Nat.{ℕ, zero, suc, _≤_, _<_}
 use native.Mathlib.Omega.{arith}
-use native.Mathlib.Decide.{decLt}
 use lib.ListN.{length, List·getD-eq-default}
 use lib.Dec.{ltb, eqb}
 use borrow.Author.Tests.{ne-eqb}
-use Rattle.refusal.specs.First.{EachBelow, anyBelow}
+use Rattle.ground.proofs.Lists.{NoneFrom, none-from}
+use Rattle.refusal.specs.First.{anyBelow}
 use Rattle.refusal.proofs.Says.{refuted, says-once, says-and, says-iff, says-eq, says-le, says-any}
 use Rattle.record.specs.Kinds.{newPoint, newCircle, newArc, pairGuess, numberGuess}
 use Rattle.record.specs.Decode.{countOf, decodeAt}
@@ -116,7 +117,8 @@ pub met : (es : List Entry) (l : Label) (code k : ℕ) → code ≡ k → (a : B
 met es l code k e a h = rw e h
 
 -- a code that the table has not needs nothing, as 0 does
-pub met-none : (es : List Entry) (l : Label) (code : ℕ) → EachBelow 7 (λ k. code ≡ suc k → ⊥) → false ≡ meets es (needOf code) l
+pub met-none : (es : List Entry) (l : Label) (code : ℕ) → NoneFrom 1 7 code → false ≡ meets es (needOf code) l
 met-none es l zero f = refl
 met-none es l (suc n) f =
-    elim (decLt n 7) [ yes h ↦ absurd (f n h refl) | no g ↦ ap (λ (x : Need). meets es x l) (sym (List·getD-eq-default needs [] {n = suc n} (omega (arith, g)))) ]
+    ⊎-elim (λ h. absurd (omega (arith, h))) (λ h. ap (λ (x : Need). meets es x l) (sym (List·getD-eq-default needs [] {n = suc n} (omega (arith, h)))))
+    (none-from 1 7 (suc n) f)

@@ -1,9 +1,6 @@
 -- `drawing::search::meets` meets its contract: each code is asked for its choices. Assumes nothing.
 use borrow.Author.Needs.{needs}
-use borrow.Author.Count.{below-none, below-more}
-use mathlib.Core.Path.{_≡_}
 use mathlib.Core.Bool.{or-false}
-use Prim.Native.Nat.{suc}
 use Rattle.drawing.proofs.Read.{met, met-none}
 use Rattle.drawing.proofs.search.meets.Statement.{statement}
 use Rattle.drawing.proofs.search.meets.Tie as tie
@@ -35,11 +32,7 @@ returns-7 : tie.Need-returns-7
 returns-7 c = met _ _ _ _ (c .before .before .match .keys7) _ (rw (c .named14 .ensures) (simp or-false))
 
 returns-8 : tie.Need-returns-8
-returns-8 c =
-    let r = c .match .rest in
-    let more = below-more (λ k. c .before .before .before .before .before .args .code ≡ suc k → ⊥) in
-    let two = more 1 (more 0 (below-none _) (r .0 .0 .0 .0 .0 .0 .1)) (r .0 .0 .0 .0 .0 .1) in
-    met-none _ _ _ (more 6 (more 5 (more 4 (more 3 (more 2 two (r .0 .0 .0 .0 .1)) (r .0 .0 .0 .1)) (r .0 .0 .1)) (r .0 .1)) (r .1))
+returns-8 c = met-none _ _ _ (c .match .rest)
 
 pub meets-spec : {M : Type 1} → statement M
 meets-spec =
