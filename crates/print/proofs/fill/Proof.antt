@@ -33,9 +33,6 @@ loop-again c =
     let a = c .before .before .before .before .args in
     (rw (c .sign .ensures) (l .inv .0 ∙ digits-turn (a .base) (l .rest) (l .i) (l .place) (omega arith) (omega arith)), omega arith, simp length-set (l .inv .2))
 
-same-length : tie.Need-same-length Inv-loop μ-loop
-same-length c = c .before .loop .inv .2
-
 returns : tie.Need-returns Inv-loop μ-loop
 unfolding lastDigits
 returns c =
@@ -44,4 +41,6 @@ returns c =
     sym (rw e at (l .inv .0))
 
 pub fill-spec : {M : Type 1} → statement M
-fill-spec = tie.close (tie.spec Inv-loop μ-loop loop-holds (λ c. omega arith) (λ c. omega arith) sign-requires (λ c. omega arith) (λ c. omega arith) (λ c. omega arith) loop-again same-length returns)
+fill-spec =
+    tie.close (tie.spec Inv-loop μ-loop loop-holds (λ c. omega arith) (λ c. omega arith) sign-requires (λ c. omega arith) (λ c. omega arith) (λ c. omega arith)
+    loop-again (λ c. c .before .loop .inv .2) returns)

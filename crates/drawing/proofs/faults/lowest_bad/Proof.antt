@@ -19,9 +19,6 @@ Inv-loop kinds text records chains guess-chains number n i₀ i = (n ≡ countOf
 abbrev μ-loop : tie.MeasureT-loop
 μ-loop kinds text records chains guess-chains number n i₀ i = n - i
 
-loop-holds : tie.Need-loop-holds Inv-loop μ-loop
-loop-holds c = (refl, omega arith, below-none _)
-
 returns : tie.Need-returns Inv-loop μ-loop
 returns c =
     let l = c .before .before .before .loop in
@@ -36,4 +33,6 @@ returns-2 : tie.Need-returns-2 Inv-loop μ-loop
 returns-2 c = lowest-nowhere _ _ (λ j h. c .before .loop .inv .2 j (omega arith))
 
 pub lowest-bad-spec : {M : Type 1} → statement M
-lowest-bad-spec = tie.close (tie.spec Inv-loop μ-loop loop-holds (λ c κs. search needs) returns (λ c. omega arith) (λ c. omega arith) loop-again returns-2)
+lowest-bad-spec =
+    tie.close (tie.spec Inv-loop μ-loop (λ c. (refl, omega arith, below-none _)) (λ c κs. search needs) returns (λ c. omega arith) (λ c. omega arith) loop-again
+    returns-2)

@@ -12,17 +12,11 @@ use Rattle.drawing.proofs.Read.{named-none, named-found}
 use Rattle.drawing.proofs.search.named.Statement.{statement}
 use Rattle.drawing.proofs.search.named.Tie as tie
 
-returns : tie.Need-returns
-returns c = named-none _ _ _ _ (too-short _ _ (c .if1 .taken))
-
 returns-2 : tie.Need-returns-2
 returns-2 c =
     let a = c .before .before .before .before .before .before .before .before .before .args in
     named-none _ _ _ _
     (ends-else _ _ (sym (rw (rest-of (a .label .now) (length (a .label .now) - length (a .suffix .now))) at (c .before .same .ensures)) ∙ not-true _ (c .if2 .taken)))
-
-slice-aggregate-find : tie.Need-slice-aggregate-find
-slice-aggregate-find c = sym (length-take-le _ _ (omega arith))
 
 returns-3 : tie.Need-returns-3
 returns-3 c =
@@ -34,5 +28,5 @@ returns-3 c =
 
 pub named-spec : {M : Type 1} → statement M
 named-spec =
-    tie.close (tie.spec returns (λ c. search needs) (λ c. search needs) (λ c. search needs) (λ c. search needs) (λ c κs. search needs) returns-2
-    slice-aggregate-find (λ c κs. search needs) returns-3)
+    tie.close (tie.spec (λ c. named-none _ _ _ _ (too-short _ _ (c .if1 .taken))) (λ c. search needs) (λ c. search needs) (λ c. search needs) (λ c. search needs)
+    (λ c κs. search needs) returns-2 (λ c. sym (length-take-le _ _ (omega arith))) (λ c κs. search needs) returns-3)
