@@ -18,10 +18,6 @@ Inv-loop records low high n m₀ i₀ m i = (n ≡ countOf records) × (i ≤ n)
 abbrev μ-loop : tie.MeasureT-loop
 μ-loop records low high n m₀ i₀ m i = n - i
 
-loop-holds : tie.Need-loop-holds Inv-loop μ-loop
-unfolding countBelow
-loop-holds c = (refl, omega arith, omega arith, refl)
-
 small : (c : tie.After-one-if Inv-loop μ-loop) → c .one-if .result ≤ 1
 small c =
     let a = c .before .before .before .before .before .args in
@@ -39,4 +35,7 @@ returns c =
     rw e at (l .inv .3)
 
 pub count-spec : {M : Type 1} → statement M
-count-spec = tie.close (tie.spec Inv-loop μ-loop loop-holds (λ c κs. search needs) (λ c κs. search needs) (λ c. omega (arith, small c)) (λ c. omega arith) (λ c. omega arith) loop-again returns)
+unfolding countBelow
+count-spec =
+    tie.close (tie.spec Inv-loop μ-loop (λ c. (refl, omega arith, omega arith, refl)) (λ c κs. search needs) (λ c κs. search needs) (λ c. omega (arith, small c))
+    (λ c. omega arith) (λ c. omega arith) loop-again returns)

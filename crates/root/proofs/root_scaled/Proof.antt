@@ -17,11 +17,8 @@ rooted c = c .root-core .ensures ∙ ap nearestRoot (twice (c .before) .value)
 range : (c : tie.After-root-core) → (2 ^ 52 ≤ c .root-core .result) × (c .root-core .result < 2 ^ 53)
 range c = rw (rooted c) (root-range (c .before .args .m) (c .before .args .g) (omega arith) (omega arith))
 
-returns : tie.Need-returns
-unfolding scaledRoot
-returns c = rw (rooted c)
-
 pub root-scaled-spec : {M : Type 1} → statement M
+unfolding scaledRoot
 root-scaled-spec =
     tie.close (tie.spec (λ c. search needs) (λ c. omega (arith, twice c)) (λ c κs. omega (arith, twice c)) (λ c. search needs) (λ c. search needs)
-    (λ c. omega (arith, range c)) (λ c. omega (arith, range c)) returns)
+    (λ c. omega (arith, range c)) (λ c. omega (arith, range c)) (λ c. rw (rooted c)))
