@@ -50,15 +50,10 @@ pub record Can (l : Layout) : Type 0 where
 pub can : (l : Layout) → impossible l ≡ false → Can l
 unfolding impossible
 can l e =
-    let p = ltb mostShapes (l .points) in
-    let c = ltb mostShapes (l .circles) in
-    let a = ltb mostShapes (l .arcs) in
-    let early-c = ltb 0 (l .circles) && ltb (stageNumber (l .stage)) 1 in
-    let early-a = ltb 0 (l .arcs) && ltb (stageNumber (l .stage)) 2 in
-    let rest = neither (p || c || a || early-c) early-a e in
-    let most = neither (p || c || a) early-c (rest .0) in
-    let two = neither (p || c) a (most .0) in
-    let one = neither p c (two .0) in
+    let rest = neither _ _ e in
+    let most = neither _ _ (rest .0) in
+    let two = neither _ _ (most .0) in
+    let one = neither _ _ (two .0) in
     record {
       counts = record { points = ltb-false _ _ (one .0); circles = ltb-false _ _ (one .1); arcs = ltb-false _ _ (two .1) };
       circles-late = late _ _ _ (most .1);

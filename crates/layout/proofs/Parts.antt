@@ -4,6 +4,7 @@ use mathlib.Core.Path.{_≡_, refl, sym, _∙_, ap}
 use mathlib.Core.Bool.{false}
 use mathlib.Core.List.{List, [], _∷_, _++_, append-assoc, append-nil, map}
 use Prim.Native.Nat.{ℕ, zero, suc, _+_, _*_, _≤_, _<_}
+use borrow.Author.Needs.{needs}
 use native.Mathlib.Omega.{arith}
 use native.Mathlib.Nat.{suc-mul, zero-mul, zero-add}
 use lib.ListN.{length, getD, set, length-set, length-append, List·getD-append}
@@ -142,7 +143,7 @@ module _ (next : ℕ) (ids : List ℕ) (values : List Float) (ps : List Point) (
   arcs-are = ap (λ (z : Layout). z .arcs) (known .layout-is)
 
   possible : impossible l ≡ false
-  possible = rw (known .layout-is) (can-be _ (record { counts = record { points = room .points; circles = room .circles; arcs = room .arcs }; circles-late = λ h. omega arith; arcs-late = λ h. omega arith }))
+  possible = rw (known .layout-is) (can-be _ (search needs))
 
   long : slotCount l ≤ length (last .values)
   long = omega (arith, points-are, circles-are, arcs-are, room .in-values, known .all-laid .values-length)

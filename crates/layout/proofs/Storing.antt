@@ -2,6 +2,7 @@
 use mathlib.Core.Path.{_≡_, refl, sym, _∙_}
 use mathlib.Core.List.{List}
 use Prim.Native.Nat.{ℕ, _+_, _≤_, _<_}
+use borrow.Author.Needs.{needs}
 use native.Mathlib.Omega.{arith}
 use native.Mathlib.Numerals.{add-one}
 use lib.ListN.{length, getD, set, length-set}
@@ -30,7 +31,9 @@ module _ (ids₀ : List ℕ) (values₀ : List Float) (at next : ℕ) (guess : L
 
   pub store-start : Storing ids₀ values₀ 0 next
   store-start =
-      record { most = omega arith; id-is = omega arith; ids-length = refl; values-length = refl; ids-are = paste-zero ids₀ at (onward next (length guess)); values-are = paste-zero values₀ at guess }
+      let i = paste-zero ids₀ at (onward next (length guess)) in
+      let v = paste-zero values₀ at guess in
+      search needs
 
   module _ (ids : List ℕ) (values : List Float) (i id : ℕ) (so-far : Storing ids values i id) where
     pub store-turn : at + length guess ≤ length ids₀ → at + length guess ≤ length values₀ → i < length guess → Storing (set ids (at + i) id) (set values (at + i) (getD guess i nan)) (i + 1) (id + 1)
