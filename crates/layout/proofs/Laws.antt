@@ -204,6 +204,10 @@ module _ (k : ShapeKind) (l : Layout) (len i : ℕ) where
   abbrev LookTold : Place → Type 0
   LookTold p = p ≡ answered reasonNumber Not (lookTold k l len i) (At (slotOf k l i))
 
+  -- a place that is refused is a refusal of what asked for it
+  pub look-refused : {A : Type 0} (refuse : Refusal → A) (good : A) (r : Refusal) → LookTold (Not r) → refuse r ≡ answered reasonNumber refuse (lookTold k l len i) good
+  look-refused refuse good r e = as-refused _ _ _ e refuse good r refl
+
   pub look-impossible : impossible l ≡ true → LookTold (Not (told cannot-be))
   unfolding answered lookTold once first lowest
   look-impossible e = rw e
