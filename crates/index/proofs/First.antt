@@ -7,11 +7,11 @@ use Prim.Native.Nat.{ℕ, zero, suc, _+_, _-_, _≤_, _<_}
 use native.Mathlib.Nat.{lt-irrefl}
 use native.Mathlib.Numerals.{add-one}
 use native.Mathlib.Omega.{arith}
-use native.Mathlib.Decide.{decLt}
+use native.Mathlib.Decide.{decLt, ℕ-discrete}
 use lib.ListN.{length, getD, set}
 use lib.Seq.{getD-set-same, getD-set-other}
-use lib.Dec.{ltb, eqb}
-use borrow.Author.Tests.{le-ltb, eqb-true, eqb-false}
+use lib.Dec.{ltb}
+use borrow.Author.Tests.{le-ltb}
 use Rattle.refusal.specs.First.{SomeBelow, EachBelow, anyBelow, lowest}
 use Rattle.refusal.proofs.Says.{Says, refuted, says-once, says-so, says-iff, says-lt, says-any}
 use Rattle.refusal.proofs.Search.{Searched, at, nowhere, searched, stops-here, goes-through}
@@ -22,11 +22,8 @@ use Rattle.index.specs.Chains.{firstOf, from}
 
 module _ (l : List ℕ) (i v j : ℕ) where
   pub put : i < length l → (x : ℕ) → (j ≡ i → v ≡ x) → ((j ≡ i → ⊥) → getD l j 0 ≡ x) → getD (set l i v) j 0 ≡ x
-  put h x same other = go (eqb j i) refl
-    where
-      go : (t : Bool) → eqb j i ≡ t → getD (set l i v) j 0 ≡ x
-      go true e = let q = eqb-true j i e in rw (q, getD-set-same l i v 0 h) (same q)
-      go false e = let q = eqb-false j i e in rw (getD-set-other l i j v 0 q) (other q)
+  put h x same other =
+      elim (ℕ-discrete j i) [ yes q ↦ rw (q, getD-set-same l i v 0 h) (same q) | no q ↦ rw (getD-set-other l i j v 0 q) (other q) ]
 
 -- ---- the lowest place, from the number that stands for it
 

@@ -139,12 +139,6 @@ module _ (es : List Entry) (lo hi low high : ℕ) (cs : List ℕ) (l : Label) (c
       let z : length es ≡ i = omega arith in
       walk-past es low high cs l m i k ∙ z ∙ sym (from-end (labelled es low high l) (length es) i k)
 
-  step : (m i : ℕ) → i < length es → (t : Bool) → labelled es low high l i ≡ t
-      → (labelled es low high l i ≡ false → walk es low high cs l m (nextIn cs i) ≡ from (labelled es low high l) (length es) i) → i < nextIn cs i
-      → walk es low high cs l (suc m) i ≡ from (labelled es low high l) (length es) i
-  step m i lt true e rest up = walk-here es low high cs l m i lt e ∙ sym (from-stop (labelled es low high l) (length es) i lt e)
-  step m i lt false e rest up = walk-next es low high cs l m i lt e up ∙ rest e
-
   start-is : getD cs (hashOf l) 0 ≡ from (hashed es lo hi (hashOf l)) (length es) 0
   unfolding headOf
   start-is = c .head (hashOf l) (hash-small 0 l (omega arith))
@@ -154,10 +148,14 @@ module _ (es : List Entry) (lo hi low high : ℕ) (cs : List ℕ) (l : Label) (c
   walked (suc m) i a b h =
       elim (decLt i (length es)) [
         | yes lt ↦ (let f = next-first i lt (h lt) in
-            step m i lt (labelled es low high l i) refl
-            (λ e. walked m (nextIn cs i) (omega (arith, f .after)) (f .up-to) (f .passes) ∙ sym (next-rest i lt (h lt) e)) (omega (arith, f .after)))
+            go lt (labelled es low high l i) refl (omega (arith, f .after)) (walked m (nextIn cs i) (omega (arith, f .after)) (f .up-to) (f .passes)))
         | no f ↦ walked-past (suc m) i b (omega (arith, f))
       ]
+    where
+      go : (lt : i < length es) (t : Bool) → labelled es low high l i ≡ t → i < nextIn cs i → walk es low high cs l m (nextIn cs i) ≡ from (labelled es low high l) (length es) (nextIn cs i)
+          → walk es low high cs l (suc m) i ≡ from (labelled es low high l) (length es) i
+      go lt true e up rest = walk-here es low high cs l m i lt e ∙ sym (from-stop (labelled es low high l) (length es) i lt e)
+      go lt false e up rest = walk-next es low high cs l m i lt e up ∙ rest ∙ sym (next-rest i lt (h lt) e)
 
   pub found : walkOf es low high cs l ≡ lowestOr (length es) (labelled es low high l)
   unfolding walkOf
