@@ -33,10 +33,6 @@ neither : (a b : Bool) → (a || b) ≡ false → (a ≡ false) × (b ≡ false)
 neither true b e = let z : _≡_ {A = ℕ} 0 1 = cc in absurd (omega arith)
 neither false b e = (refl, e)
 
--- some of a kind, and a stage too early for them
-late : (m stage due : ℕ) → (ltb 0 m && ltb stage due) ≡ false → 0 < m → due ≤ stage
-late m stage due e h = ltb-false _ _ (rw (lt-ltb 0 m h) at e)
-
 never-early : (m stage due : ℕ) → (0 < m → due ≤ stage) → (ltb 0 m && ltb stage due) ≡ false
 never-early zero stage due h = refl
 never-early (suc m) stage due h = rw (le-ltb stage due (h (omega arith))) (and-false (ltb 0 (suc m)))
@@ -47,26 +43,17 @@ pub record Can (l : Layout) : Type 0 where
   pub circles-late : 0 < l .circles → 1 ≤ stageNumber (l .stage)
   pub arcs-late : 0 < l .arcs → 2 ≤ stageNumber (l .stage)
 
-pub can : (l : Layout) → impossible l ≡ false → Can l
-unfolding impossible
-can l e =
-    let rest = neither _ _ e in
-    let most = neither _ _ (rest .0) in
-    let two = neither _ _ (most .0) in
-    let one = neither _ _ (two .0) in
-    record {
-      counts = record { points = ltb-false _ _ (one .0); circles = ltb-false _ _ (one .1); arcs = ltb-false _ _ (two .1) };
-      circles-late = late _ _ _ (most .1);
-      arcs-late = late _ _ _ (rest .1);
-    }
-
 pub can-be : (l : Layout) → Can l → impossible l ≡ false
 unfolding impossible
 can-be l h =
     rw (le-ltb _ _ (h .counts .points), le-ltb _ _ (h .counts .circles), le-ltb _ _ (h .counts .arcs), never-early _ _ 1 (h .circles-late), never-early _ _ 2 (h .arcs-late))
 
 pub small : (l : Layout) → impossible l ≡ false → Small l
-small l e = can l e .counts
+unfolding impossible
+small l e =
+    let two = neither _ _ (neither _ _ (neither _ _ e .0) .0) in
+    let one = neither _ _ (two .0) in
+    record { points = ltb-false _ _ (one .0); circles = ltb-false _ _ (one .1); arcs = ltb-false _ _ (two .1) }
 
 pub count-small : (k : ShapeKind) (l : Layout) → Small l → shapesIn k l ≤ mostShapes
 count-small Point l s = s .points

@@ -146,9 +146,6 @@ module _ (next : ℕ) (ids : List ℕ) (values : List Float) (ps : List Point) (
   grouped : allComponents (shapesOf ps cs xs) ≡ allComponents (map point ps) ++ (allComponents (map circle cs) ++ allComponents (map arc xs))
   grouped = all-append (map point ps) (map circle cs ++ map arc xs) ∙ rw (all-append (map circle cs) (map arc xs))
 
-  last-grouped : allComponents (map point ps) ++ (allComponents (map circle cs) ++ allComponents (map arc xs)) ≡ (allComponents (map point ps) ++ allComponents (map circle cs)) ++ (allComponents (map arc xs) ++ [])
-  last-grouped = rw (append-assoc, append-nil) refl
-
   -- shape i of those of a kind, between a front and a rest
   read-one : {X : Type 0} (make : X → Shape) (k : ShapeKind) → ((x : X) → kindOf (make x) ≡ k) → (front rest : List Float) (ys : List X)
       → allComponents (shapesOf ps cs xs) ≡ front ++ (allComponents (map make ys) ++ rest) → length front ≡ kindStart k l → length ys ≡ shapesIn k l
@@ -170,7 +167,7 @@ module _ (next : ℕ) (ids : List ℕ) (values : List Float) (ps : List Point) (
             let r = read-one circle K.Circle (λ c. refl) (allComponents (map point ps)) _ cs grouped (omega (arith, counted K.Point)) (sym (counted K.Circle)) i other h in
             r .0 ∙ ap CR.Found (cc (r .1));
         arcs = λ i other h.
-            let r = read-one arc K.Arc (λ a. refl) (allComponents (map point ps) ++ allComponents (map circle cs)) [] xs (grouped ∙ last-grouped)
+            let r = read-one arc K.Arc (λ a. refl) (allComponents (map point ps) ++ allComponents (map circle cs)) [] xs (grouped ∙ rw (append-assoc, append-nil))
             (omega (arith, counted K.Point, counted K.Circle)) (sym (counted K.Arc)) i other h in
             r .0 ∙ ap AR.Found (cc (r .1));
       }
