@@ -53,15 +53,6 @@ module _ (bs : List ℕ) (i : ℕ) where
 abbrev pub placed : ℕ → ℕ → ℕ → Bool
 placed kind count q = ltb q count && (ltb q labelPlaces && hasPlace kind q)
 
-module _ (text : List ℕ) (r : Record) (q : ℕ) where
-  label-here : q < r .count → named text r q ≡ labelNo (entryOf text r) q
-  unfolding entryOf
-  label-here h = sym (getD-up-to (r .count) (named text r) q [] h)
-
-  label-past : r .count ≤ q → [] ≡ labelNo (entryOf text r) q
-  unfolding entryOf
-  label-past h = sym (List·getD-eq-default (upTo (r .count) (named text r)) [] (rw (length-up-to (r .count) (named text r)) h))
-
 -- a label place by its bytes; elsewhere there is none
 module _ (b : List ℕ) (q : ℕ) where
   place-is : q < labelPlaces → viewOf (decode b) q ≡ placeIn b q
@@ -96,8 +87,8 @@ Shown text r q v = LabelIs text r q (part text (v .start) (v .len)) (startIn tex
 -- a label by the bytes of its record
 module _ (text b : List ℕ) (q : ℕ) where
   shown : q < byte b 3 → (v : View) → viewOf (decode b) q ≡ v → Shown text (decode b) q v
-  unfolding decode
-  shown h v e = rw (← e) (record { is = label-here text (decode b) q h; starts = rw (lt-ltb q (byte b 3) h) refl })
+  unfolding decode entryOf
+  shown h v e = rw (← e) (record { is = sym (getD-up-to (byte b 3) (named text (decode b)) q [] h); starts = rw (lt-ltb q (byte b 3) h) refl })
 
   read-here : placed (byte b 1) (byte b 3) q ≡ true → Shown text (decode b) q (viewAt b (4 + q * 4))
   read-here e =
@@ -106,12 +97,12 @@ module _ (text b : List ℕ) (q : ℕ) where
       shown (ltb-true q (byte b 3) some) (viewAt b (4 + q * 4)) (place-is b q (placed-few (byte b 1) (byte b 3) q e) ∙ rw (and-second (ltb q labelPlaces) (hasPlace (byte b 1) q) rest) refl)
 
   read-none : placed (byte b 1) (byte b 3) q ≡ false → Shown text (decode b) q noView
-  unfolding decode
+  unfolding decode entryOf
   read-none e =
       elim (decLt q (byte b 3)) [
         | yes h ↦ shown h noView (no-place b q (rw (lt-ltb q (byte b 3) h) at e))
         | no f ↦ (let g : byte b 3 ≤ q = omega (arith, f) in
-            record { is = label-past text (decode b) q g; starts = rw (le-ltb q (byte b 3) g) (zero-either (ltb 0 (length text))) })
+            record { is = sym (List·getD-eq-default (upTo (byte b 3) (named text (decode b))) [] (rw length-up-to g)); starts = rw (le-ltb q (byte b 3) g) (zero-either (ltb 0 (length text))) })
       ]
 
 -- a label by the bytes of the list

@@ -26,7 +26,7 @@ cond-when true x y z e = e refl
 cond-when false x y z e = refl
 
 module _ (es : List Entry) (low high : ℕ) (cs : List ℕ) (l : Label) where
-  walk-past : (m i : ℕ) → length es ≤ i → walk es low high cs l m i ≡ length es
+  pub walk-past : (m i : ℕ) → length es ≤ i → walk es low high cs l m i ≡ length es
   unfolding walk
   walk-past zero i h = refl
   walk-past (suc m) i h = rw (le-ltb i (length es) h)
@@ -41,7 +41,7 @@ module _ (es : List Entry) (low high : ℕ) (cs : List ℕ) (l : Label) where
     walk-next h e f = rw (lt-ltb i (length es) h, e, lt-ltb i (nextIn cs i) f)
 
   -- a step goes up, so that as many steps as there are entries from i on are enough
-  enough : (m k i : ℕ) → length es ≤ m + i → length es ≤ k + i → walk es low high cs l m i ≡ walk es low high cs l k i
+  pub enough : (m k i : ℕ) → length es ≤ m + i → length es ≤ k + i → walk es low high cs l m i ≡ walk es low high cs l k i
   unfolding walk
   enough zero k i a b = walk-past zero i (omega arith) ∙ sym (walk-past k i (omega arith))
   enough (suc m) zero i a b = walk-past (suc m) i (omega arith) ∙ sym (walk-past zero i (omega arith))
@@ -52,12 +52,6 @@ module _ (es : List Entry) (low high : ℕ) (cs : List ℕ) (l : Label) where
   -- the walk with as many steps as there are entries from i on
   abbrev pub rest-from : ℕ → ℕ
   rest-from i = walk es low high cs l (length es - i) i
-
-  pub rest-start : (n i : ℕ) → n ≡ length es → walk es low high cs l n i ≡ rest-from i
-  rest-start n i e = enough n (length es - i) i (omega arith) (omega arith)
-
-  pub rest-past : (i : ℕ) → length es ≤ i → rest-from i ≡ length es
-  rest-past i h = walk-past (length es - i) i h
 
   module _ (i : ℕ) (h : i < length es) where
     one-more : length es - i ≡ suc (length es - suc i)
@@ -75,17 +69,6 @@ module _ (es : List Entry) (low high : ℕ) (cs : List ℕ) (l : Label) where
       rest-next f =
           rw one-more (walk-next (length es - suc i) i h e f)
           ∙ enough (length es - suc i) (length es - nextIn cs i) (nextIn cs i) (omega arith) (omega arith)
-
--- ---- a find
-
-module _ (es : List Entry) (low high : ℕ) (cs : List ℕ) (l : Label) (n : ℕ) (e : n ≡ length es) where
-  pub find-none : room n (length cs) ≡ false → n ≡ walkOf es low high cs l
-  unfolding walkOf
-  find-none f = rw (← e, f) refl
-
-  pub find-walk : room n (length cs) ≡ true → (h i : ℕ) → h ≡ hashOf l → i ≡ getD cs h 0 → walk es low high cs l n i ≡ walkOf es low high cs l
-  unfolding walkOf
-  find-walk f h i eh ei = rw (← e, f, ← eh, ← ei) refl
 
 -- ---- tables that hold the chains
 
@@ -139,10 +122,6 @@ module _ (es : List Entry) (lo hi low high : ℕ) (cs : List ℕ) (l : Label) (c
       let z : length es ≡ i = omega arith in
       walk-past es low high cs l m i k ∙ z ∙ sym (from-end (labelled es low high l) (length es) i k)
 
-  start-is : getD cs (hashOf l) 0 ≡ from (hashed es lo hi (hashOf l)) (length es) 0
-  unfolding headOf
-  start-is = c .head (hashOf l) (hash-small 0 l (omega arith))
-
   walked : (m i : ℕ) → length es ≤ m + i → i ≤ length es → (i < length es → hashed es lo hi (hashOf l) i ≡ true) → walk es low high cs l m i ≡ from (labelled es low high l) (length es) i
   walked zero i a b h = walked-past zero i b (omega arith)
   walked (suc m) i a b h =
@@ -158,12 +137,13 @@ module _ (es : List Entry) (lo hi low high : ℕ) (cs : List ℕ) (l : Label) (c
       go lt false e up rest = walk-next es low high cs l m i lt e up ∙ rest ∙ sym (next-rest i lt (h lt) e)
 
   pub found : walkOf es low high cs l ≡ lowestOr (length es) (labelled es low high l)
-  unfolding walkOf
+  unfolding walkOf headOf
   found =
       let n = length es in
       let q = hashed es lo hi (hashOf l) in
       let f = from-is q n 0 (omega arith) in
-      rw (c .roomy, start-is) (
+      let first : getD cs (hashOf l) 0 ≡ from q n 0 = c .head (hashOf l) (hash-small 0 l (omega arith)) in
+      rw (c .roomy, first) (
       walked n (from q n 0) (omega arith) (f .up-to) (f .passes)
       ∙ sym (skip (labelled es low high l) q labelled-hashed n 0 (omega arith))
       ∙ from-plain (labelled es low high l) n

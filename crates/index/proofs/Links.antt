@@ -25,10 +25,6 @@ module _ (es : List Entry) (low high i : ℕ) where
   unfolding nextOf
   next-in d = rw d
 
-  next-out : within low high (kindNo es i) ≡ false → nextOf es low high i ≡ length es
-  unfolding nextOf
-  next-out d = rw d
-
 -- ---- room
 
 pub says-room : (n size : ℕ) → Says (room n size) ((n ≤ most) × (chains + n ≤ size))
@@ -67,8 +63,9 @@ module _ (es : List Entry) (low high : ℕ) where
     -- a record of another kind is in no chain
     pub links-out : (cs : List ℕ) (v : ℕ) → Links es low high (j + 1) (j + 1) before cs → v ≡ length es
         → within low high (kindNo es j) ≡ false → Links es low high j j before (set cs (chains + j) v)
+    unfolding nextOf
     links-out cs v c z d =
-        let w = with-next cs v c (z ∙ sym (next-out es low high j d)) in
+        let w = with-next cs v c (z ∙ rw d) in
         let goes-on : (h : ℕ) → from (hashed es low high h) (length es) j ≡ from (hashed es low high h) (length es) (j + 1)
         = λ h. from-more _ (length es) j lt (refuted (says-hashed es low high h j) (λ g. true≢false (sym (g .0) ∙ d))) in
         record { few = w .few; fits = w .fits; as-long = w .as-long; head = λ h b. w .head h b ∙ sym (goes-on h); next = w .next; behind = w .behind }
@@ -104,20 +101,14 @@ getD-behind a rest n i e h =
     ap (λ (k : ℕ). getD (a ++ rest) k 0) z ∙ getD-append-add a rest (i - n) 0
 
 module _ (es : List Entry) (low high : ℕ) (before : List ℕ) where
-  heads-many : length (upTo chains (headOf es low high)) ≡ chains
-  heads-many = length-up-to chains (headOf es low high)
-
-  nexts-many : length (upTo (length es) (nextOf es low high)) ≡ length es
-  nexts-many = length-up-to (length es) (nextOf es low high)
-
   pub table-head : (h : ℕ) → h < chains → getD (tableOf es low high before) h 0 ≡ headOf es low high h
-  table-head h b = List·getD-append (upTo chains (headOf es low high)) (upTo (length es) (nextOf es low high) ++ drop (chains + length es) before) 0 h (omega (arith, b, heads-many)) ∙ getD-up-to chains (headOf es low high) h 0 b
+  table-head h b = List·getD-append (upTo chains (headOf es low high)) (upTo (length es) (nextOf es low high) ++ drop (chains + length es) before) 0 h (rw length-up-to b) ∙ getD-up-to chains (headOf es low high) h 0 b
 
   pub table-next : (i : ℕ) → i < length es → nextIn (tableOf es low high before) i ≡ nextOf es low high i
   table-next i b =
       let e : chains + i - chains ≡ i = omega arith in
-      getD-behind (upTo chains (headOf es low high)) (upTo (length es) (nextOf es low high) ++ drop (chains + length es) before) chains (chains + i) heads-many (omega arith)
-      ∙ rw e (List·getD-append (upTo (length es) (nextOf es low high)) (drop (chains + length es) before) 0 i (omega (arith, b, nexts-many)) ∙ getD-up-to (length es) (nextOf es low high) i 0 b)
+      getD-behind (upTo chains (headOf es low high)) (upTo (length es) (nextOf es low high) ++ drop (chains + length es) before) chains (chains + i) (length-up-to chains (headOf es low high)) (omega arith)
+      ∙ rw e (List·getD-append (upTo (length es) (nextOf es low high)) (drop (chains + length es) before) 0 i (rw length-up-to b) ∙ getD-up-to (length es) (nextOf es low high) i 0 b)
 
   pub table-long : chains + length es ≤ length before → length (tableOf es low high before) ≡ length before
   table-long h = simp (length-append, length-drop, length-up-to) (omega arith)

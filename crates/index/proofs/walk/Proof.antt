@@ -10,7 +10,7 @@ use Rattle.index.specs.Labels.{drawn}
 use Rattle.index.specs.Chains.{chains, most, walk}
 use Rattle.index.proofs.Drawn.{drawn-length}
 use Rattle.index.proofs.Links.{says-room}
-use Rattle.index.proofs.Found.{rest-from, rest-start, rest-past, rest-here, rest-stop, rest-next}
+use Rattle.index.proofs.Found.{rest-from, walk-past, enough, rest-here, rest-stop, rest-next}
 use Rattle.index.proofs.walk.Statement.{statement}
 use Rattle.index.proofs.walk.Tie as tie
 
@@ -25,7 +25,7 @@ abbrev μ-loop : tie.MeasureT-loop
 loop-holds : tie.Need-loop-holds Inv-loop μ-loop
 loop-holds c =
     let n = sym (drawn-length _ _) in
-    (n, rest-start _ _ _ _ _ _ _ n)
+    (n, enough _ _ _ _ _ _ _ _ (omega arith) (omega arith))
 
 returns : tie.Need-returns Inv-loop μ-loop
 returns c =
@@ -49,7 +49,7 @@ loop-again c =
     )
 
 returns-3 : tie.Need-returns-3 Inv-loop μ-loop
-returns-3 c = let l = c .before .loop in l .inv .0 ∙ sym (l .inv .1 ∙ rest-past _ _ _ _ _ (l .i) (omega arith))
+returns-3 c = let l = c .before .loop in l .inv .0 ∙ sym (l .inv .1 ∙ walk-past _ _ _ _ _ _ (l .i) (omega arith))
 
 -- the next of a record that is there lies inside the table
 next-inside : (c : tie.Else1 Inv-loop μ-loop) → let a = c .before .before .before .before .before .before .before .before .before .args in
