@@ -97,11 +97,6 @@ module _ (es : List Entry) (kind : ℕ) (suffix l : Label) where
       (says-and (says-eq (kindNo es j) kind) (says-same l (nameNo es j ++ suffix))))
       )
 
-  -- the label with the suffix behind it is looked for
-  guessed-is : anyBelow (length es) (labelled es kind kind (l ++ suffix)) ≡ guessed es kind suffix l
-  unfolding guessed guessAt labelled
-  guessed-is = any-same _ _ (length es) (λ j. rw (within-one kind (kindNo es j)) refl)
-
 module _ (text bs : List ℕ) (cs : List ℕ) (kind : ℕ) (suffix l : Label) (r : ℕ) where
   pub named-found : (front : Label) → front ++ suffix ≡ l → Chained (drawn text bs) newPoint newArc cs → newPoint ≤ kind → kind ≤ newArc
       → r ≡ walkOf (drawn text bs) kind kind cs front → ltb r (countOf bs) ≡ named (drawn text bs) kind suffix l
@@ -109,7 +104,10 @@ module _ (text bs : List ℕ) (cs : List ℕ) (kind : ℕ) (suffix l : Label) (r
 
   pub guessed-found : Chained (drawn text bs) pairGuess numberGuess cs → pairGuess ≤ kind → kind ≤ numberGuess
       → r ≡ walkOf (drawn text bs) kind kind cs (l ++ suffix) → ltb r (countOf bs) ≡ guessed (drawn text bs) kind suffix l
-  guessed-found c a b er = found-any text bs pairGuess numberGuess kind cs (l ++ suffix) r c a b er ∙ guessed-is (drawn text bs) kind suffix l
+  unfolding guessed guessAt labelled
+  guessed-found c a b er =
+      found-any text bs pairGuess numberGuess kind cs (l ++ suffix) r c a b er
+      ∙ any-same (labelled (drawn text bs) kind kind (l ++ suffix)) (guessAt (drawn text bs) kind suffix l) (length (drawn text bs)) (λ j. rw within-one)
 
 -- ---- what a code needs
 
