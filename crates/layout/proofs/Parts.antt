@@ -6,7 +6,7 @@ use mathlib.Core.List.{List, [], _∷_, _++_, append-assoc, append-nil, map}
 use Prim.Native.Nat.{ℕ, zero, suc, _+_, _*_, _≤_, _<_}
 use borrow.Author.Needs.{needs}
 use native.Mathlib.Omega.{arith}
-use native.Mathlib.Nat.{suc-mul, zero-mul, zero-add}
+use native.Mathlib.Nat.{suc-mul, zero-mul, zero-add, add-zero}
 use lib.ListN.{length, getD, set, length-set, length-append, List·getD-append}
 use lib.Seq.{getD-set-same, getD-set-other, getD-append-add}
 use lib.Ieee.{Float, nan}
@@ -39,14 +39,11 @@ abbrev pub At : ShapeKind → List Float → ℕ → ℕ → Type 0
 At k values at j = getD (components (shapeAt k values at)) j nan ≡ getD values (at + j) nan
 
 pub part-at : (k : ShapeKind) (values : List Float) (at j : ℕ) → j < sizeOf k → At k values at j
-part-at k values at =
-    let here : getD values at nan ≡ getD values (at + 0) nan = let e : at ≡ at + 0 = omega arith in ap (λ (n : ℕ). getD values n nan) e in
-    by-kind k here
-  where
-    by-kind : (k : ShapeKind) → getD values at nan ≡ getD values (at + 0) nan → (j : ℕ) → j < sizeOf k → At k values at j
-    by-kind K.Point here = let more = below-more (At K.Point values at) in more 1 (more 0 (below-none (At K.Point values at)) here) refl
-    by-kind K.Circle here = let more = below-more (At K.Circle values at) in more 2 (more 1 (more 0 (below-none (At K.Circle values at)) here) refl) refl
-    by-kind K.Arc here = let more = below-more (At K.Arc values at) in more 5 (more 4 (more 3 (more 2 (more 1 (more 0 (below-none (At K.Arc values at)) here) refl) refl) refl) refl) refl
+part-at K.Point values at = let more = below-more (At K.Point values at) in more 1 (more 0 (below-none (At K.Point values at)) (rw add-zero)) refl
+part-at K.Circle values at = let more = below-more (At K.Circle values at) in more 2 (more 1 (more 0 (below-none (At K.Circle values at)) (rw add-zero)) refl) refl
+part-at K.Arc values at =
+    let more = below-more (At K.Arc values at) in
+    more 5 (more 4 (more 3 (more 2 (more 1 (more 0 (below-none (At K.Arc values at)) (rw add-zero)) refl) refl) refl) refl) refl
 
 abbrev part : ShapeKind → ℕ → ℕ → Component
 part k i j = record { kind = k; shape = i; place = j }
@@ -90,12 +87,10 @@ module _ (l : Layout) (values : List Float) (possible : impossible l ≡ false) 
 
 -- a shape is read out where its components stand
 shape-there : (shape : Shape) (values : List Float) (at : ℕ) → ((j : ℕ) → j < sizeOf (kindOf shape) → getD values (at + j) nan ≡ getD (components shape) j nan) → shapeAt (kindOf shape) values at ≡ shape
-shape-there shape values at h = by-shape shape (let e : at ≡ at + 0 = omega arith in ap (λ (n : ℕ). getD values n nan) e) h
-  where
-    by-shape : (shape : Shape) → getD values at nan ≡ getD values (at + 0) nan → ((j : ℕ) → j < sizeOf (kindOf shape) → getD values (at + j) nan ≡ getD (components shape) j nan) → shapeAt (kindOf shape) values at ≡ shape
-    by-shape (point p) here h = rw (here, h 0 (omega arith), h 1 (omega arith))
-    by-shape (circle c) here h = rw (here, h 0 (omega arith), h 1 (omega arith), h 2 (omega arith))
-    by-shape (arc a) here h = rw (here, h 0 (omega arith), h 1 (omega arith), h 2 (omega arith), h 3 (omega arith), h 4 (omega arith), h 5 (omega arith))
+shape-there (point p) values at h = rw (rw add-zero at (h 0 (omega arith)), h 1 (omega arith))
+shape-there (circle c) values at h = rw (rw add-zero at (h 0 (omega arith)), h 1 (omega arith), h 2 (omega arith))
+shape-there (arc a) values at h =
+    rw (rw add-zero at (h 0 (omega arith)), h 1 (omega arith), h 2 (omega arith), h 3 (omega arith), h 4 (omega arith), h 5 (omega arith))
 
 module _ {X : Type 0} (make : X → Shape) (k : ShapeKind) (is : (x : X) → kindOf (make x) ≡ k) where
   size-of : (x : X) → length (components (make x)) ≡ sizeOf k
