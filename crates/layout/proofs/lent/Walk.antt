@@ -33,7 +33,7 @@ use denote.Steps.{only, opens, closes, owned, peeks, heard, nothing}
 use denote.Struct.Steps.{spelt}
 use denote.Struct.Laws as LL
 use denote.Enum.Laws as EL
-use denote.Triple.Entry.{Args, onEntry}
+use denote.Triple.Entry.{Args, Vals, onEntry}
 use denote.Triple.Spec.{Meets, tripleOf}
 use denote.Triple.Statement.{Contract, Triple}
 use denote.Triple.Call.{calls-at}
@@ -168,10 +168,7 @@ module _ (T : Declared) (laws : LL.Laws T) (plains : Plains (fields T)) (shape :
     abbrev a : Args signature (κ, (κ₁, (κ₂, tt)))
     a = (l, (record { ptr = (b, o); name = γ; now = c }, (xi, (xv, (p, tt)))))
 
-    abbrev Vals : Type 0
-    Vals = List Val × (List Val × (List Val × (List Val × (List Val × (Unit {0})))))
-
-    abbrev vals : Vals
+    abbrev vals : Vals signature (κ, (κ₁, (κ₂, tt)))
     vals = (machL ∷ [], (vptr b o ∷ [], (si ∷ [], (sv ∷ [], (LL.val T laws p ∷ [], tt)))))
 
     abbrev args : List Val
