@@ -32,28 +32,11 @@ use Rattle.drawing.specs.Check as check
 use check.{twice, wrongLabelTest, noSuchPartTest, withoutGuessTest, test, checkOf, countBelow, countOf as count-of, answer, checkedOf}
 use Rattle.drawing.proofs.Laws.{count-kinds}
 
--- ---- a turn of the loop
+-- ---- the faults by their numbers
 
 -- fault k behind 30
 abbrev pub faultAt : ℕ → Fault
 faultAt k = getD behind30 k malformed
-
-module _ (t : Fault → ℕ → Bool) (n k : ℕ) (h : k < length behind30) (i : ℕ) (e : i ≡ lowestOr n (t (faultAt k))) where
-  open-up : first (drop k behind30) t n ≡ tell (faultAt k) (lowest n (t (faultAt k))) (first (drop (k + 1) behind30) t n)
-  unfolding first
-  open-up = rw (add-one, drop-cons behind30 k malformed h) refl
-
-  pub stops : i < n → first (drop k behind30) t n ≡ refused (faultAt k) i
-  stops g = open-up ∙ ap (λ (o : Option ℕ). tell (faultAt k) o (first (drop (k + 1) behind30) t n)) (is-some n (t (faultAt k)) i e g)
-
-  pub goes-on : n ≤ i → first (drop k behind30) t n ≡ first (drop (k + 1) behind30) t n
-  goes-on g = open-up ∙ ap (λ (o : Option ℕ). tell (faultAt k) o (first (drop (k + 1) behind30) t n)) (is-none n (t (faultAt k)) i e g)
-
-pub ends : (t : Fault → ℕ → Bool) (n k : ℕ) → length behind30 ≤ k → first (drop k behind30) t n ≡ passed
-unfolding first
-ends t n k h = rw (drop-of-length-le behind30 h) refl
-
--- ---- the faults by their numbers
 
 -- the number of fault k
 pub number-at : (k : ℕ) → k < length behind30 → getD (map numberOf behind30) k 0 ≡ numberOf (faultAt k)
@@ -63,8 +46,28 @@ number-at k h = getD-map numberOf behind30 k malformed 0 h
 by-numbers : (es : List Entry) → Each (λ f. testNo es (numberOf f) ≡ test es f) behind30
 by-numbers es = (refl, (refl, (refl, (refl, (refl, tt)))))
 
-pub test-at : (es : List Entry) (k : ℕ) → k < length behind30 → testNo es (getD (map numberOf behind30) k 0) ≡ test es (faultAt k)
-test-at es k h = rw (number-at k h) (each-at (λ (f : Fault). testNo es (numberOf f) ≡ test es f) behind30 malformed (by-numbers es) k h)
+-- ---- a turn of the loop
+
+-- i is what was looked for by the number of fault k
+module _ (es : List Entry) (n k : ℕ) (h : k < length behind30) (i : ℕ) (e : i ≡ lowestOr n (testNo es (getD (map numberOf behind30) k 0))) where
+  by-fault : i ≡ lowestOr n (test es (faultAt k))
+  by-fault =
+      let is = each-at (λ (f : Fault). testNo es (numberOf f) ≡ test es f) behind30 malformed (by-numbers es) k h in
+      e ∙ ap (lowestOr n) (rw (number-at k h) is)
+
+  open-up : first (drop k behind30) (test es) n ≡ tell (faultAt k) (lowest n (test es (faultAt k))) (first (drop (k + 1) behind30) (test es) n)
+  unfolding first
+  open-up = rw (add-one, drop-cons behind30 k malformed h) refl
+
+  pub stops : i < n → first (drop k behind30) (test es) n ≡ refused (faultAt k) i
+  stops g = open-up ∙ ap (λ (o : Option ℕ). tell (faultAt k) o (first (drop (k + 1) behind30) (test es) n)) (is-some n (test es (faultAt k)) i by-fault g)
+
+  pub goes-on : n ≤ i → first (drop k behind30) (test es) n ≡ first (drop (k + 1) behind30) (test es) n
+  goes-on g = open-up ∙ ap (λ (o : Option ℕ). tell (faultAt k) o (first (drop (k + 1) behind30) (test es) n)) (is-none n (test es (faultAt k)) i by-fault g)
+
+pub ends : (t : Fault → ℕ → Bool) (n k : ℕ) → length behind30 ≤ k → first (drop k behind30) t n ≡ passed
+unfolding first
+ends t n k h = rw (drop-of-length-le behind30 h) refl
 
 -- ---- only 30 is told at the place after the last entry
 
