@@ -5,7 +5,7 @@ use mathlib.Core.Bool.{Bool, true, false, not, cond, and-false}
 use Prim.Native.Nat.{ℕ, _*_, _^_, _≤_, _<_}
 use native.Mathlib.Nat.{zero-mul, zero-lt-suc}
 use native.Mathlib.Omega.{arith}
-use borrow.Author.Tests.{lt-ltb, le-ltb, le-leb, lt-leb}
+use borrow.Author.Tests.{le-ltb, le-leb, lt-leb}
 use lib.Dec.{T, ltb, leb, ltb→lt, leb→le}
 use lib.Ieee.{Float, binary64, round, ofInt, toBits, isNan}
 use lib.Ieee.Exact.{HasValue}
@@ -21,9 +21,6 @@ use Rattle.decimal.proofs.Powers.{ten-pos, power-exact}
 
 -- ---- the limits
 module _ (m : ℕ) (k : Scale) where
-  pub fitting : m < limit → powerOf k ≤ power → fits m k ≡ true
-  fitting h l = rw (lt-ltb m limit h, le-leb (powerOf k) power l)
-
   pub fits-digits : fits m k ≡ true → m < limit
   fits-digits e = ltb→lt m limit (and-l (ltb m limit) (leb (powerOf k) power) (subst T (sym e) tt))
 
@@ -101,4 +98,4 @@ value-zero (Times a) s = rw zero-mul
 value-zero (Over a) s = round-same binary64 s 0 (10 ^ a) 0 1 (ten-pos a) (zero-lt-suc 0) (rw (zero-mul 1, zero-mul (10 ^ a)))
 
 pub zero-keeps-sign : (k : Scale) (s : Bool) → powerOf k ≤ power → carried 0 k s ≡ Bits (cond s (2 ^ 63) 0)
-zero-keeps-sign k s h = inside 0 k s (fitting 0 k (omega arith) h) ∙ ap Bits (ap (toBits binary64) (value-zero k s) ∙ round-zero s)
+zero-keeps-sign k s h = inside 0 k s (rw (le-leb (powerOf k) power h)) ∙ ap Bits (ap (toBits binary64) (value-zero k s) ∙ round-zero s)

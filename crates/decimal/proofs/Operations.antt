@@ -52,13 +52,9 @@ neg-cond : (b : Bool) (x y : Float) → neg (cond b x y) ≡ cond b (neg x) (neg
 neg-cond true x y = refl
 neg-cond false x y = refl
 
-neg-units : (f : Format) (s : Bool) (q k : ℕ) → neg (units f s q k) ≡ units f (not s) q k
-unfolding neg units
-neg-units f s q k = rw (neg-cond, neg-odd)
-
 pub neg-round : (f : Format) (s : Bool) (a b : ℕ) → neg (round f s a b) ≡ round f (not s) a b
-unfolding round
-neg-round f s a b = neg-units f s _ _
+unfolding round neg units
+neg-round f s a b = rw (neg-cond, neg-odd)
 
 -- ---- no NaN
 number-odd : (d : ℕ) (s : Bool) (q k l : ℕ) → T (not (isNan (odd d s q k l)))

@@ -15,7 +15,7 @@ use Rattle.index.specs.Labels.{kindNo, nameNo, labelled}
 use Rattle.index.proofs.Laws.{says-same, says-within}
 use Rattle.drawing.specs.Needs.{Shape, point, circle, arc, declaring, Part, parts, Need, needAt}
 use Rattle.drawing.specs.Faults as faults
-use faults.{Named, Meets, Guessed, AnyUnguessed, WrongLabel, NoSuchPart, WithoutGuess, Fault, malformed, declared-twice, wrong-label, no-such-part, guessed-twice, without-guess, order, Holds}
+use faults.{Named, Meets, Guessed, AnyUnguessed, WithoutGuess, Fault, malformed, declared-twice, wrong-label, no-such-part, guessed-twice, without-guess, order, Holds}
 use Rattle.drawing.specs.Check as check
 use check.{twice, namedAt, named, meets, guessAt, guessed, anyUnguessed, wrongPlace, wrongLabelTest, noSuchPartTest, lacks, withoutGuessTest, test, checkOf}
 
@@ -52,14 +52,6 @@ module _ (es : List Entry) where
     unfolding wrongPlace
     says-wrong-place q = says-not (says-meets (needAt (kindNo es i) q) (labelNo (entryAt es i) q))
 
-    says-wrong-label : Says (wrongLabelTest es i) (WrongLabel es i)
-    unfolding wrongLabelTest
-    says-wrong-label = says-and (says-within _ _ _) (says-any _ _ says-wrong-place (kindAt (kindNo es i) .labels))
-
-    says-no-such-part : Says (noSuchPartTest es i) (NoSuchPart es i)
-    unfolding noSuchPartTest
-    says-no-such-part = says-and (says-within _ _ _) (says-wrong-place 0)
-
     -- entry i declares the shape s, and a part of it has no guess
     abbrev Lacks : Shape → Type 0
     Lacks s = (kindNo es i ≡ declaring s) × AnyUnguessed es (nameNo es i) (parts s)
@@ -85,10 +77,11 @@ module _ (es : List Entry) where
 
   -- each test says its fault
   pub agree : (f : Fault) (i : ℕ) → Says (test es f i) (Holds es f i)
+  unfolding wrongLabelTest noSuchPartTest
   agree malformed i = says-malformed es i
   agree declared-twice i = says-twice i newPoint newArc
-  agree wrong-label i = says-wrong-label i
-  agree no-such-part i = says-no-such-part i
+  agree wrong-label i = says-and (says-within _ _ _) (says-any _ _ (says-wrong-place i) (kindAt (kindNo es i) .labels))
+  agree no-such-part i = says-and (says-within _ _ _) (says-wrong-place i 0)
   agree guessed-twice i = says-twice i pairGuess numberGuess
   agree without-guess i = says-without-guess i
 

@@ -1,6 +1,6 @@
 -- Drawings with what is told of them: one claim, which the definitions compute. Assumes nothing.
 use mathlib.Core.Path.{_≡_, refl}
-use mathlib.Core.List.{List, [], _∷_, _++_}
+use mathlib.Core.List.{List, [], _∷_, _++_, map}
 use Prim.Native.Nat.{ℕ}
 use Prim.Native.String.{String}
 use Rattle.ground.specs.Words.{bytes}
@@ -44,76 +44,51 @@ bow rules = one 3 "a" ∷ rules ++ one 24 "a.a" ∷ one 24 "a.b" ∷ one 24 "a.c
 
 -- ---- what is told
 
-abbrev answers : List Checked
-answers =
-    checkedOf page
-    -- an arc, and its center fixed both ways
-    ∷ checkedOf (bow (fix 4 "a.center" ∷ fix 18 "a" ∷ one 20 "a" ∷ []))
-    -- a rule before the declaration
-    ∷ checkedOf (fix 4 "p" ∷ one 1 "p" ∷ one 24 "p" ∷ [])
-    -- 30: nothing, no guess, an instruction after a guess; and before 31
-    ∷ checkedOf []
-    ∷ checkedOf (one 1 "p" ∷ [])
-    ∷ checkedOf (page ++ one 1 "q" ∷ [])
-    ∷ checkedOf (one 1 "p" ∷ one 1 "p" ∷ [])
-    -- 31: of whatever kinds, at the later record; and before 32
-    ∷ checkedOf (one 3 "c" ∷ page)
-    ∷ checkedOf (two 22 "p" "z" ∷ one 1 "p" ∷ page)
-    -- 32: an unknown label, a circle for a point, an arc's rule on a circle, a circle's on an arc, the center of a point, another part than the center
-    ∷ checkedOf (two 22 "p" "z" ∷ page)
-    ∷ checkedOf (two 22 "p" "c" ∷ page)
-    ∷ checkedOf (one 17 "c" ∷ page)
-    ∷ checkedOf (bow (one 15 "a" ∷ []))
-    ∷ checkedOf (fix 4 "p.center" ∷ page)
-    ∷ checkedOf (bow (fix 4 "a.a" ∷ []))
-    ∷ checkedOf (fix 18 "p" ∷ page)
-    -- and before 33
-    ∷ checkedOf (two 22 "p" "z" ∷ page ++ one 24 "z" ∷ [])
-    -- 33: an undeclared shape, a point guessed by a number, a radius by a pair; and before 34
-    ∷ checkedOf (page ++ one 24 "z" ∷ [])
-    ∷ checkedOf (page ++ one 25 "p" ∷ [])
-    ∷ checkedOf (start ++ one 24 "c.radius" ∷ [])
-    ∷ checkedOf (page ++ one 24 "p" ∷ one 24 "z" ∷ [])
-    -- 34: at the later record; and before 35
-    ∷ checkedOf (page ++ one 24 "p" ∷ [])
-    ∷ checkedOf (start ++ one 24 "p" ∷ [])
-    -- 35: at the declaring record
-    ∷ checkedOf start
-    ∷ checkedOf (one 1 "q" ∷ page)
-    ∷ []
-
 abbrev refuses : ℕ → ℕ → Checked
 refuses number place = Refused (refusal number place)
 
-abbrev expected : List Checked
-expected =
-    Passed 1 1 0 2
-    ∷ Passed 0 0 1 3
-    ∷ Passed 1 0 0 1
-    ∷ refuses 30 0
-    ∷ refuses 30 1
-    ∷ refuses 30 7
-    ∷ refuses 30 2
-    ∷ refuses 31 3
-    ∷ refuses 31 2
-    ∷ refuses 32 0
-    ∷ refuses 32 0
-    ∷ refuses 32 0
-    ∷ refuses 32 1
-    ∷ refuses 32 0
-    ∷ refuses 32 1
-    ∷ refuses 32 0
-    ∷ refuses 32 0
-    ∷ refuses 33 7
-    ∷ refuses 33 7
-    ∷ refuses 33 6
-    ∷ refuses 33 8
-    ∷ refuses 34 7
-    ∷ refuses 34 6
-    ∷ refuses 35 2
-    ∷ refuses 35 0
+-- a drawing, and what is told of it
+abbrev Case : Type 0
+Case = List Entry × Checked
+
+abbrev cases : List Case
+cases =
+    (page, Passed 1 1 0 2)
+    -- an arc, and its center fixed both ways
+    ∷ (bow (fix 4 "a.center" ∷ fix 18 "a" ∷ one 20 "a" ∷ []), Passed 0 0 1 3)
+    -- a rule before the declaration
+    ∷ (fix 4 "p" ∷ one 1 "p" ∷ one 24 "p" ∷ [], Passed 1 0 0 1)
+    -- 30: nothing, no guess, an instruction after a guess; and before 31
+    ∷ ([], refuses 30 0)
+    ∷ (one 1 "p" ∷ [], refuses 30 1)
+    ∷ (page ++ one 1 "q" ∷ [], refuses 30 7)
+    ∷ (one 1 "p" ∷ one 1 "p" ∷ [], refuses 30 2)
+    -- 31: of whatever kinds, at the later record; and before 32
+    ∷ (one 3 "c" ∷ page, refuses 31 3)
+    ∷ (two 22 "p" "z" ∷ one 1 "p" ∷ page, refuses 31 2)
+    -- 32: an unknown label, a circle for a point, an arc's rule on a circle, a circle's on an arc, the center of a point, another part than the center
+    ∷ (two 22 "p" "z" ∷ page, refuses 32 0)
+    ∷ (two 22 "p" "c" ∷ page, refuses 32 0)
+    ∷ (one 17 "c" ∷ page, refuses 32 0)
+    ∷ (bow (one 15 "a" ∷ []), refuses 32 1)
+    ∷ (fix 4 "p.center" ∷ page, refuses 32 0)
+    ∷ (bow (fix 4 "a.a" ∷ []), refuses 32 1)
+    ∷ (fix 18 "p" ∷ page, refuses 32 0)
+    -- and before 33
+    ∷ (two 22 "p" "z" ∷ page ++ one 24 "z" ∷ [], refuses 32 0)
+    -- 33: an undeclared shape, a point guessed by a number, a radius by a pair; and before 34
+    ∷ (page ++ one 24 "z" ∷ [], refuses 33 7)
+    ∷ (page ++ one 25 "p" ∷ [], refuses 33 7)
+    ∷ (start ++ one 24 "c.radius" ∷ [], refuses 33 6)
+    ∷ (page ++ one 24 "p" ∷ one 24 "z" ∷ [], refuses 33 8)
+    -- 34: at the later record; and before 35
+    ∷ (page ++ one 24 "p" ∷ [], refuses 34 7)
+    ∷ (start ++ one 24 "p" ∷ [], refuses 34 6)
+    -- 35: at the declaring record
+    ∷ (start, refuses 35 2)
+    ∷ (one 1 "q" ∷ page, refuses 35 0)
     ∷ []
 
-pub told : answers ≡ expected
+pub told : map (λ (c : Case). checkedOf (c .0)) cases ≡ map (λ (c : Case). c .1) cases
 unfolding checkedOf checkOf first lowest countBelow malformedTest soundTest spelledTest labelOn suffixedOn byteOn labelAt runTo wordAt labelled twice namedAt named guessAt guessed wrongPlace wrongLabelTest noSuchPartTest withoutGuessTest
 told = refl

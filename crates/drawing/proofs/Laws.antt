@@ -71,10 +71,6 @@ pub count-more : (f : ℕ → ℕ) (low high i m kind one : ℕ) → m ≡ count
 unfolding countBelow
 count-more f low high i m kind one em ek eo = rw (add-one, ← ek, ← em, ← eo) refl
 
-pub one-small : (b : Bool) → cond b 1 0 ≤ 1
-one-small true = omega arith
-one-small false = omega arith
-
 -- ---- the table of kinds
 
 -- no row of the table has more than four labels: one computed test

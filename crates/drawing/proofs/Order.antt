@@ -2,7 +2,7 @@
 use mathlib.Core.Path.{_≡_, refl, sym, ap, _∙_, subst}
 use mathlib.Core.Bool.{Bool, false}
 use mathlib.Core.Option.{Option, none, some}
-use mathlib.Core.List.{List, map}
+use mathlib.Core.List.{List, [], _∷_, map}
 use Prim.Native.Nat.{ℕ, suc, _+_, _≤_, _<_}
 use native.Mathlib.Nat.{le-refl}
 use native.Mathlib.Numerals.{add-one}
@@ -14,14 +14,14 @@ use Rattle.refusal.specs.Refusal.{refusal}
 use Rattle.refusal.specs.First.{passed, refused, tell, first, lowest, orElse}
 use Rattle.refusal.proofs.Search.{none-iff}
 use Rattle.record.specs.declared.formed.Formed.the-variants as formed
-use Rattle.record.specs.Kinds.{newPoint, newCircle, newArc, firstRule, lastRule, pairGuess, numberGuess}
+use Rattle.record.specs.Kinds.{newPoint, newCircle, newArc, firstRule, lastRule}
 use Rattle.record.specs.Decode.{countOf, decodeAt}
 use Rattle.record.specs.Entry.{Entry, noEntry}
 use Rattle.refusal.specs.declared.Refusal.{Refusal}
-use Rattle.record.specs.Formed.{WellFormed, entries, Malformed, places, malformedTest, verdict, formedOf, malformedAt}
+use Rattle.record.specs.Formed.{WellFormed, entries, Malformed, places, malformedTest, verdict, formedOf}
 use Rattle.record.proofs.Told.{says-malformed, passed-iff}
 use Rattle.record.proofs.WellFormed.{well-formed-iff}
-use Rattle.index.specs.Labels.{drawn, kindNo, within, lowestOr}
+use Rattle.index.specs.Labels.{drawn, kindNo, lowestOr}
 use Rattle.index.proofs.Drawn.{drawn-length, drawn-kind, entries-drawn}
 use Rattle.index.proofs.First.{is-some, is-none}
 use Rattle.drawing.specs.declared.Checked.the-variants as checked
@@ -32,28 +32,11 @@ use Rattle.drawing.specs.Check as check
 use check.{twice, wrongLabelTest, noSuchPartTest, withoutGuessTest, test, checkOf, countBelow, countOf as count-of, answer, checkedOf}
 use Rattle.drawing.proofs.Laws.{count-kinds}
 
--- ---- a turn of the loop
+-- ---- the faults by their numbers
 
 -- fault k behind 30
 abbrev pub faultAt : ℕ → Fault
 faultAt k = getD behind30 k malformed
-
-module _ (t : Fault → ℕ → Bool) (n k : ℕ) (h : k < length behind30) (i : ℕ) (e : i ≡ lowestOr n (t (faultAt k))) where
-  open-up : first (drop k behind30) t n ≡ tell (faultAt k) (lowest n (t (faultAt k))) (first (drop (k + 1) behind30) t n)
-  unfolding first
-  open-up = rw (add-one, drop-cons behind30 k malformed h) refl
-
-  pub stops : i < n → first (drop k behind30) t n ≡ refused (faultAt k) i
-  stops g = open-up ∙ ap (λ (o : Option ℕ). tell (faultAt k) o (first (drop (k + 1) behind30) t n)) (is-some n (t (faultAt k)) i e g)
-
-  pub goes-on : n ≤ i → first (drop k behind30) t n ≡ first (drop (k + 1) behind30) t n
-  goes-on g = open-up ∙ ap (λ (o : Option ℕ). tell (faultAt k) o (first (drop (k + 1) behind30) t n)) (is-none n (t (faultAt k)) i e g)
-
-pub ends : (t : Fault → ℕ → Bool) (n k : ℕ) → length behind30 ≤ k → first (drop k behind30) t n ≡ passed
-unfolding first
-ends t n k h = rw (drop-of-length-le behind30 h) refl
-
--- ---- the faults by their numbers
 
 -- the number of fault k
 pub number-at : (k : ℕ) → k < length behind30 → getD (map numberOf behind30) k 0 ≡ numberOf (faultAt k)
@@ -63,8 +46,28 @@ number-at k h = getD-map numberOf behind30 k malformed 0 h
 by-numbers : (es : List Entry) → Each (λ f. testNo es (numberOf f) ≡ test es f) behind30
 by-numbers es = (refl, (refl, (refl, (refl, (refl, tt)))))
 
-pub test-at : (es : List Entry) (k : ℕ) → k < length behind30 → testNo es (getD (map numberOf behind30) k 0) ≡ test es (faultAt k)
-test-at es k h = rw (number-at k h) (each-at (λ (f : Fault). testNo es (numberOf f) ≡ test es f) behind30 malformed (by-numbers es) k h)
+-- ---- a turn of the loop
+
+-- i is what was looked for by the number of fault k
+module _ (es : List Entry) (n k : ℕ) (h : k < length behind30) (i : ℕ) (e : i ≡ lowestOr n (testNo es (getD (map numberOf behind30) k 0))) where
+  by-fault : i ≡ lowestOr n (test es (faultAt k))
+  by-fault =
+      let is = each-at (λ (f : Fault). testNo es (numberOf f) ≡ test es f) behind30 malformed (by-numbers es) k h in
+      e ∙ ap (lowestOr n) (rw (number-at k h) is)
+
+  open-up : first (drop k behind30) (test es) n ≡ tell (faultAt k) (lowest n (test es (faultAt k))) (first (drop (k + 1) behind30) (test es) n)
+  unfolding first
+  open-up = rw (add-one, drop-cons behind30 k malformed h) refl
+
+  pub stops : i < n → first (drop k behind30) (test es) n ≡ refused (faultAt k) i
+  stops g = open-up ∙ ap (λ (o : Option ℕ). tell (faultAt k) o (first (drop (k + 1) behind30) (test es) n)) (is-some n (test es (faultAt k)) i by-fault g)
+
+  pub goes-on : n ≤ i → first (drop k behind30) (test es) n ≡ first (drop (k + 1) behind30) (test es) n
+  goes-on g = open-up ∙ ap (λ (o : Option ℕ). tell (faultAt k) o (first (drop (k + 1) behind30) (test es) n)) (is-none n (test es (faultAt k)) i by-fault g)
+
+pub ends : (t : Fault → ℕ → Bool) (n k : ℕ) → length behind30 ≤ k → first (drop k behind30) t n ≡ passed
+unfolding first
+ends t n k h = rw (drop-of-length-le behind30 h) refl
 
 -- ---- only 30 is told at the place after the last entry
 
@@ -79,27 +82,15 @@ lowest-last : (n : ℕ) (p : ℕ → Bool) → p n ≡ false → lowest (suc n) 
 unfolding lowest
 lowest-last n p e = rw e (or-none (lowest n p))
 
-module _ (es : List Entry) where
-  twice-end : (low high : ℕ) → within low high 0 ≡ false → twice es low high (length es) ≡ false
-  unfolding twice
-  twice-end low high e = rw (past es, e) refl
+-- an order whose faults hold not at the last place is told without it
+first-last : (order : List Fault) (t : Fault → ℕ → Bool) (n : ℕ) → Each (λ f. t f n ≡ false) order → first order t (suc n) ≡ first order t n
+unfolding first
+first-last [] t n e = refl
+first-last (f ∷ order) t n e = rw (lowest-last n (t f) (e .0), first-last order t n (e .1))
 
-  wrong-label-end : wrongLabelTest es (length es) ≡ false
-  unfolding wrongLabelTest
-  wrong-label-end = rw (past es) refl
-
-  no-such-part-end : noSuchPartTest es (length es) ≡ false
-  unfolding noSuchPartTest
-  no-such-part-end = rw (past es) refl
-
-  without-guess-end : withoutGuessTest es (length es) ≡ false
-  unfolding withoutGuessTest
-  without-guess-end = rw (past es) refl
-
-  shorter : first behind30 (test es) (suc (length es)) ≡ first behind30 (test es) (length es)
-  unfolding first
-  shorter =
-      rw (lowest-last (length es) (twice es newPoint newArc) (twice-end newPoint newArc refl), lowest-last (length es) (wrongLabelTest es) wrong-label-end, lowest-last (length es) (noSuchPartTest es) no-such-part-end, lowest-last (length es) (twice es pairGuess numberGuess) (twice-end pairGuess numberGuess refl), lowest-last (length es) (withoutGuessTest es) without-guess-end) refl
+shorter : (es : List Entry) → first behind30 (test es) (suc (length es)) ≡ first behind30 (test es) (length es)
+unfolding twice wrongLabelTest noSuchPartTest withoutGuessTest
+shorter es = first-last behind30 (test es) (length es) (rw (past es), (rw (past es), (rw (past es), (rw (past es), (rw (past es), tt)))))
 
 -- ---- 30
 
@@ -109,13 +100,8 @@ unfolding checkedOf checkOf first formedOf
 told-30 es r e = go (lowest (places es) (malformedTest es)) e
   where
     go : (o : Option ℕ) → verdict o ≡ formed.Refused r → checked.Refused r ≡ answer es (tell malformed o (first behind30 (test es) (places es)))
-    go (some j) q =
-        let m : malformedAt j ≡ r = cc in
-        rw (← m) refl
-    go none q = absurd (never q)
-      where
-        never : formed.WellFormed ≡ formed.Refused r → ⊥
-        never r = let z : _≡_ {A = ℕ} 0 1 = cc in omega arith
+    go (some j) q = cc
+    go none q = let z : _≡_ {A = ℕ} 0 1 = cc in absurd (omega arith)
 
 module _ (text bs : List ℕ) (w : WellFormed text bs) where
   -- the check of a well formed list is that of the order behind 30, over its records

@@ -37,10 +37,8 @@ module _ (es : List Entry) where
   refused-of passed f i e = absurd (not-passed e)
   refused-of (refused g j) f i e =
       let r : refusal (numberOf g) j ≡ refusal (numberOf f) i = cc in
-      let n : numberOf g ≡ numberOf f = ap (λ (r : Refusal). r .number) r in
       let p : j ≡ i = ap (λ (r : Refusal). r .place) r in
-      let q : g ≡ f = numbers-apart g f n in
-      cc
+      let q = numbers-apart g f (ap (λ (r : Refusal). r .number) r) in cc
 
   passed-of : (o : Answer Fault) → answer es o ≡ answer es passed → o ≡ passed
   passed-of passed e = refl

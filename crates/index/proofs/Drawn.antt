@@ -4,11 +4,12 @@ use mathlib.Core.Bool.{Bool, true, false, _&&_, cond}
 use mathlib.Core.List.{List, []}
 use Prim.Native.Nat.{ℕ, _+_, _*_, _≤_, _<_}
 use native.Mathlib.Omega.{arith}
+use native.Mathlib.Nat.{add-assoc}
 use native.Mathlib.Decide.{decLt}
 use lib.ListN.{length, getD, drop, List·getD-eq-default}
 use lib.Seq.{getD-take, getD-drop, ext-getD}
 use lib.Dec.{ltb}
-use borrow.Author.Tests.{lt-ltb, le-ltb, ltb-true, ltb-false}
+use borrow.Author.Tests.{lt-ltb, le-ltb, ltb-true}
 use Rattle.ground.proofs.Lists.{and-first, and-second}
 use Rattle.bytes.specs.Little.{byte, u16}
 use Rattle.record.specs.declared.View.{View}
@@ -28,10 +29,7 @@ module _ (bs : List ℕ) (i : ℕ) where
   byte-is k h = rw (getD-take recordBytes (drop (i * recordBytes) bs) k 0 h, getD-drop (i * recordBytes) bs k 0) refl
 
   u16-is : (k m : ℕ) → k + 1 < recordBytes → m ≡ i * recordBytes + k → u16 (recordOf bs i) k ≡ u16 bs m
-  u16-is k m h e = rw (byte-is k (omega arith), byte-is (k + 1) h, e, add-assoc)
-    where
-      add-assoc : i * recordBytes + (k + 1) ≡ i * recordBytes + k + 1
-      add-assoc = omega arith
+  u16-is k m h e = rw (byte-is k (omega arith), byte-is (k + 1) h, e, ← add-assoc (i * recordBytes) k 1)
 
   view-is : (k m : ℕ) → k + 3 < recordBytes → m ≡ i * recordBytes + k → viewAt (recordOf bs i) k ≡ viewAt bs m
   view-is k m h e j = record { start = u16-is k m (omega arith) e j; len = u16-is (k + 2) (m + 2) (omega arith) (omega arith) j }
@@ -55,15 +53,6 @@ module _ (bs : List ℕ) (i : ℕ) where
 abbrev pub placed : ℕ → ℕ → ℕ → Bool
 placed kind count q = ltb q count && (ltb q labelPlaces && hasPlace kind q)
 
-module _ (text : List ℕ) (r : Record) (q : ℕ) where
-  label-here : q < r .count → named text r q ≡ labelNo (entryOf text r) q
-  unfolding entryOf
-  label-here h = sym (getD-up-to (r .count) (named text r) q [] h)
-
-  label-past : r .count ≤ q → [] ≡ labelNo (entryOf text r) q
-  unfolding entryOf
-  label-past h = sym (List·getD-eq-default (upTo (r .count) (named text r)) [] (rw (length-up-to (r .count) (named text r)) h))
-
 -- a label place by its bytes; elsewhere there is none
 module _ (b : List ℕ) (q : ℕ) where
   place-is : q < labelPlaces → viewOf (decode b) q ≡ placeIn b q
@@ -72,11 +61,11 @@ module _ (b : List ℕ) (q : ℕ) where
 
   no-place : (ltb q labelPlaces && hasPlace (byte b 1) q) ≡ false → viewOf (decode b) q ≡ noView
   unfolding decode
-  no-place e = go (ltb q labelPlaces) refl e
-    where
-      go : (t : Bool) → ltb q labelPlaces ≡ t → (t && hasPlace (byte b 1) q) ≡ false → viewOf (decode b) q ≡ noView
-      go true f g = place-is (ltb-true q labelPlaces f) ∙ rw g refl
-      go false f g = List·getD-eq-default (decode b .labels) noView (ltb-false q labelPlaces f)
+  no-place e =
+      elim (decLt q labelPlaces) [
+        | yes h ↦ place-is h ∙ rw (rw (lt-ltb q labelPlaces h) at e)
+        | no f ↦ List·getD-eq-default (decode b .labels) noView {n = q} (omega (arith, f))
+      ]
 
 pub placed-few : (kind count q : ℕ) → placed kind count q ≡ true → q < labelPlaces
 placed-few kind count q e = ltb-true q labelPlaces (and-first _ _ (and-second (ltb q count) (ltb q labelPlaces && hasPlace kind q) e))
@@ -87,12 +76,9 @@ pub record LabelIs (text : List ℕ) (r : Record) (q : ℕ) (label : Label) (sta
   pub starts : start ≡ labelStart text r q
 
 -- the text's start is its own
-start-zero : (text : List ℕ) → startIn text 0 ≡ 0
-start-zero text = go (ltb 0 (length text))
-  where
-    go : (t : Bool) → _≡_ {A = ℕ} (cond t 0 0) 0
-    go true = refl
-    go false = refl
+zero-either : (t : Bool) → _≡_ {A = ℕ} (cond t 0 0) 0
+zero-either true = refl
+zero-either false = refl
 
 -- the part of a text that a view names, and where it starts
 abbrev Shown : List ℕ → Record → ℕ → View → Type 0
@@ -101,8 +87,8 @@ Shown text r q v = LabelIs text r q (part text (v .start) (v .len)) (startIn tex
 -- a label by the bytes of its record
 module _ (text b : List ℕ) (q : ℕ) where
   shown : q < byte b 3 → (v : View) → viewOf (decode b) q ≡ v → Shown text (decode b) q v
-  unfolding decode
-  shown h v e = rw (← e) (record { is = label-here text (decode b) q h; starts = rw (lt-ltb q (byte b 3) h) refl })
+  unfolding decode entryOf
+  shown h v e = rw (← e) (record { is = sym (getD-up-to (byte b 3) (named text (decode b)) q [] h); starts = rw (lt-ltb q (byte b 3) h) refl })
 
   read-here : placed (byte b 1) (byte b 3) q ≡ true → Shown text (decode b) q (viewAt b (4 + q * 4))
   read-here e =
@@ -111,18 +97,19 @@ module _ (text b : List ℕ) (q : ℕ) where
       shown (ltb-true q (byte b 3) some) (viewAt b (4 + q * 4)) (place-is b q (placed-few (byte b 1) (byte b 3) q e) ∙ rw (and-second (ltb q labelPlaces) (hasPlace (byte b 1) q) rest) refl)
 
   read-none : placed (byte b 1) (byte b 3) q ≡ false → Shown text (decode b) q noView
-  unfolding decode
-  read-none e = go (ltb q (byte b 3)) refl e
-    where
-      go : (t : Bool) → ltb q (byte b 3) ≡ t → (t && (ltb q labelPlaces && hasPlace (byte b 1) q)) ≡ false → Shown text (decode b) q noView
-      go true f g = shown (ltb-true q (byte b 3) f) noView (no-place b q g)
-      go false f g = record { is = label-past text (decode b) q (ltb-false q (byte b 3) f); starts = rw f (start-zero text) }
+  unfolding decode entryOf
+  read-none e =
+      elim (decLt q (byte b 3)) [
+        | yes h ↦ shown h noView (no-place b q (rw (lt-ltb q (byte b 3) h) at e))
+        | no f ↦ (let g : byte b 3 ≤ q = omega (arith, f) in
+            record { is = sym (List·getD-eq-default (upTo (byte b 3) (named text (decode b))) [] (rw length-up-to g)); starts = rw (le-ltb q (byte b 3) g) (zero-either (ltb 0 (length text))) })
+      ]
 
 -- a label by the bytes of the list
 module _ (text bs : List ℕ) (i q : ℕ) where
   pub label-none : countOf bs ≤ i → Shown text (decodeAt bs i) q noView
   unfolding decodeAt entryOf
-  label-none h = rw (le-ltb i (countOf bs) h) (record { is = refl; starts = rw (le-ltb q 0 (omega arith)) (start-zero text) })
+  label-none h = rw (le-ltb i (countOf bs) h) (record { is = refl; starts = rw (le-ltb q 0 (omega arith)) (zero-either (ltb 0 (length text))) })
 
   module _ (h : i < countOf bs) where
     pub label-read : placed (getD bs (i * recordBytes + 1) 0) (getD bs (i * recordBytes + 3) 0) q ≡ true → Shown text (decodeAt bs i) q (viewAt bs (i * recordBytes + 4 + q * 4))

@@ -4,15 +4,14 @@ use mathlib.Core.Bool.{Bool, true, false, cond, true≢false}
 use mathlib.Core.Option.{Option, none, some}
 use mathlib.Core.List.{List}
 use Prim.Native.Nat.{ℕ, zero, suc, _+_, _-_, _≤_, _<_}
-use native.Mathlib.Nat.{lt-irrefl, not-suc-le-zero}
+use native.Mathlib.Nat.{lt-irrefl}
 use native.Mathlib.Numerals.{add-one}
 use native.Mathlib.Omega.{arith}
-use native.Mathlib.Decide.{decLt}
+use native.Mathlib.Decide.{decLt, ℕ-discrete}
 use lib.ListN.{length, getD, set}
 use lib.Seq.{getD-set-same, getD-set-other}
-use lib.Dec.{ltb, eqb}
-use borrow.Author.Tests.{le-ltb, eqb-true, eqb-false}
-use Rattle.ground.proofs.Lists.{either-le}
+use lib.Dec.{ltb}
+use borrow.Author.Tests.{le-ltb}
 use Rattle.refusal.specs.First.{SomeBelow, EachBelow, anyBelow, lowest}
 use Rattle.refusal.proofs.Says.{Says, refuted, says-once, says-so, says-iff, says-lt, says-any}
 use Rattle.refusal.proofs.Search.{Searched, at, nowhere, searched, stops-here, goes-through}
@@ -23,11 +22,8 @@ use Rattle.index.specs.Chains.{firstOf, from}
 
 module _ (l : List ℕ) (i v j : ℕ) where
   pub put : i < length l → (x : ℕ) → (j ≡ i → v ≡ x) → ((j ≡ i → ⊥) → getD l j 0 ≡ x) → getD (set l i v) j 0 ≡ x
-  put h x same other = go (eqb j i) refl
-    where
-      go : (t : Bool) → eqb j i ≡ t → getD (set l i v) j 0 ≡ x
-      go true e = let q = eqb-true j i e in rw (q, getD-set-same l i v 0 h) (same q)
-      go false e = let q = eqb-false j i e in rw (getD-set-other l i j v 0 q) (other q)
+  put h x same other =
+      elim (ℕ-discrete j i) [ yes q ↦ rw (q, getD-set-same l i v 0 h) (same q) | no q ↦ rw (getD-set-other l i j v 0 q) (other q) ]
 
 -- ---- the lowest place, from the number that stands for it
 
@@ -72,28 +68,26 @@ module _ (n : ℕ) (p : ℕ → Bool) where
 
 -- ---- the first of m numbers
 
-later : (t : Bool) (i x : ℕ) → suc i ≤ x → i ≤ cond t i x
-later true i x h = omega arith
-later false i x h = omega arith
+-- none from i on and before x passes, and x does unless it is n
+pub record FirstIs (p : ℕ → Bool) (n i x : ℕ) : Type 0 where
+  pub after : i ≤ x
+  pub up-to : x ≤ n
+  pub passes : x < n → p x ≡ true
+  none-before : (j : ℕ) → i ≤ j → j < x → p j ≡ false
 
-after : (p : ℕ → Bool) (m i : ℕ) → i ≤ firstOf p m i
+first-is : (p : ℕ → Bool) (m i : ℕ) → FirstIs p (i + m) i (firstOf p m i)
 unfolding firstOf
-after p zero i = omega arith
-after p (suc m) i = later (p i) i (firstOf p m (suc i)) (after p m (suc i))
-
-up-to : (p : ℕ → Bool) (m i : ℕ) → firstOf p m i ≤ i + m
-unfolding firstOf
-up-to p zero i = omega arith
-up-to p (suc m) i = either-le (p i) i (firstOf p m (suc i)) (i + suc m) (omega arith) (omega (arith, up-to p m (suc i)))
-
-passes : (p : ℕ → Bool) (t : Bool) (m i x : ℕ) → p i ≡ t → (x < suc i + m → p x ≡ true) → cond t i x < i + suc m → p (cond t i x) ≡ true
-passes p true m i x e f h = e
-passes p false m i x e f h = f (omega arith)
-
-first-true : (p : ℕ → Bool) (m i : ℕ) → firstOf p m i < i + m → p (firstOf p m i) ≡ true
-unfolding firstOf
-first-true p zero i h = absurd (omega arith)
-first-true p (suc m) i h = passes p (p i) m i (firstOf p m (suc i)) refl (first-true p m (suc i)) h
+first-is p zero i = record { after = omega arith; up-to = omega arith; passes = λ h. absurd (omega arith); none-before = λ j a b. absurd (omega arith) }
+first-is p (suc m) i = go (p i) refl (first-is p m (suc i))
+  where
+    go : {x : ℕ} (t : Bool) → p i ≡ t → FirstIs p (suc i + m) (suc i) x → FirstIs p (i + suc m) i (cond t i x)
+    go true e f = record { after = omega arith; up-to = omega arith; passes = λ h. e; none-before = λ j a b. absurd (omega arith) }
+    go false e f = record {
+      after = omega (arith, f .after);
+      up-to = omega (arith, f .up-to);
+      passes = λ h. f .passes (omega arith);
+      none-before = λ j a b. elim (decLt i j) [ yes l ↦ f .none-before j l b | no g ↦ (let z : j ≡ i = omega (arith, a, g) in rw z e) ];
+    }
 
 contra : (t u : Bool) → (t ≡ true → u ≡ true) → u ≡ false → t ≡ false
 contra true u f e = absurd (true≢false (sym (f refl) ∙ e))
@@ -131,31 +125,15 @@ module _ (p : ℕ → Bool) (n i : ℕ) where
   unfolding from firstOf
   from-end h = let z : n - i ≡ 0 = omega arith in rw z
 
-  pub from-after : i ≤ from p n i
+  pub from-is : i ≤ n → FirstIs p n i (from p n i)
   unfolding from
-  from-after = after p (n - i) i
-
-  pub from-up-to : i ≤ n → from p n i ≤ n
-  unfolding from
-  from-up-to h = omega (arith, up-to p (n - i) i)
-
-  pub from-true : i ≤ n → from p n i < n → p (from p n i) ≡ true
-  unfolding from
-  from-true h k = first-true p (n - i) i (omega arith)
+  from-is h = let z : i + (n - i) ≡ n = omega arith in rw z at (first-is p (n - i) i)
 
 -- from 0 on it is the plain search
-module _ (p : ℕ → Bool) (n : ℕ) where
-  plain-step : (m i : ℕ) → i + suc m ≡ n → EachBelow i (λ j. p j ≡ false) → (t : Bool) → p i ≡ t → (EachBelow (suc i) (λ j. p j ≡ false) → firstOf p m (suc i) ≡ lowestOr n p)
-      → cond t i (firstOf p m (suc i)) ≡ lowestOr n p
-  plain-step m i e f true q rest = lowest-here n p i (omega arith) q f
-  plain-step m i e f false q rest =
-      rest (λ j h. elim (decLt j i) [ yes l ↦ f j l | no g ↦ (let z : j ≡ i = omega (arith, g, h) in rw z q) ])
-
-  plain : (m i : ℕ) → i + m ≡ n → EachBelow i (λ j. p j ≡ false) → firstOf p m i ≡ lowestOr n p
-  unfolding firstOf
-  plain zero i e f = let z : i ≡ n = omega arith in z ∙ lowest-nowhere n p (λ j h. f j (omega arith))
-  plain (suc m) i e f = plain-step m i e f (p i) refl (λ g. plain m (suc i) (omega arith) g)
-
-  pub from-plain : from p n 0 ≡ lowestOr n p
-  unfolding from
-  from-plain = let z : n - 0 ≡ n = omega arith in rw z (plain n 0 (omega arith) (λ j h. absurd (not-suc-le-zero h)))
+pub from-plain : (p : ℕ → Bool) (n : ℕ) → from p n 0 ≡ lowestOr n p
+from-plain p n =
+    let f = from-is p n 0 (omega arith) in
+    elim (decLt (from p n 0) n) [
+      | yes h ↦ lowest-here n p (from p n 0) h (f .passes h) (λ j b. f .none-before j (omega arith) b)
+      | no g ↦ (let z : from p n 0 ≡ n = omega (arith, f .up-to, g) in z ∙ lowest-nowhere n p (λ j b. f .none-before j (omega arith) (omega (arith, b, g))))
+    ]

@@ -8,70 +8,50 @@ use native.Mathlib.Decide.{decLt}
 use lib.ListN.{length, getD}
 use lib.Dec.{ltb}
 use borrow.Author.Tests.{lt-ltb, le-ltb, ltb-true}
-use Rattle.ground.proofs.Lists.{and-first, and-second}
 use Rattle.refusal.specs.First.{anyBelow}
-use Rattle.refusal.proofs.Says.{says-and, says-le}
+use Rattle.refusal.proofs.Says.{says-so, says-and}
 use Rattle.record.specs.Record.{mostRecords}
 use Rattle.record.specs.Entry.{Label, Entry}
-use Rattle.index.specs.Labels.{kindNo, nameNo, same, within, labelled, lowestOr}
+use Rattle.index.specs.Labels.{kindNo, nameNo, within, labelled, lowestOr}
 use Rattle.index.specs.Chains.{chains, room, nextIn, hashOf, hashed, from, headOf, tableOf, Made, Chained, walk, walkOf}
-use Rattle.index.proofs.Laws.{says-same, hash-small}
-use Rattle.index.proofs.First.{skip, from-more, from-stop, from-end, from-after, from-up-to, from-true, from-plain, lowest-below}
-use Rattle.index.proofs.Links.{hashed-at, hashed-says, next-in, room-so, room-fits, table-head, table-next, table-long}
+use Rattle.index.proofs.Laws.{says-same, says-within, hash-small}
+use Rattle.index.proofs.First.{FirstIs, skip, from-more, from-stop, from-end, from-is, from-plain, lowest-below}
+use Rattle.index.proofs.Links.{says-hashed, next-in, says-room, table-head, table-next, table-long}
 
 -- ---- a walk
 
-module _ (es : List Entry) (low high : ℕ) (cs : List ℕ) (l : Label) where
-  module _ (m i : ℕ) where
-    walk-past : length es ≤ i → walk es low high cs l m i ≡ length es
-    unfolding walk
-    walk-past h = go m
-      where
-        go : (k : ℕ) → walk es low high cs l k i ≡ length es
-        go zero = refl
-        go (suc k) = rw (le-ltb i (length es) h)
+-- two choices are equal where the taken ones are
+cond-when : (b : Bool) (x y z : ℕ) → (b ≡ true → x ≡ y) → cond b x z ≡ cond b y z
+cond-when true x y z e = e refl
+cond-when false x y z e = refl
 
+module _ (es : List Entry) (low high : ℕ) (cs : List ℕ) (l : Label) where
+  pub walk-past : (m i : ℕ) → length es ≤ i → walk es low high cs l m i ≡ length es
+  unfolding walk
+  walk-past zero i h = refl
+  walk-past (suc m) i h = rw (le-ltb i (length es) h)
+
+  module _ (m i : ℕ) where
     walk-here : i < length es → labelled es low high l i ≡ true → walk es low high cs l (suc m) i ≡ i
     unfolding walk
     walk-here h e = rw (lt-ltb i (length es) h, e)
-
-    walk-stop : i < length es → labelled es low high l i ≡ false → nextIn cs i ≤ i → walk es low high cs l (suc m) i ≡ length es
-    unfolding walk
-    walk-stop h e f = rw (lt-ltb i (length es) h, e, le-ltb i (nextIn cs i) f)
 
     walk-next : i < length es → labelled es low high l i ≡ false → i < nextIn cs i → walk es low high cs l (suc m) i ≡ walk es low high cs l m (nextIn cs i)
     unfolding walk
     walk-next h e f = rw (lt-ltb i (length es) h, e, lt-ltb i (nextIn cs i) f)
 
   -- a step goes up, so that as many steps as there are entries from i on are enough
-  enough-step : (m k i : ℕ) → (ltb i (nextIn cs i) ≡ true → walk es low high cs l m (nextIn cs i) ≡ walk es low high cs l k (nextIn cs i))
-      → walk es low high cs l (suc m) i ≡ walk es low high cs l (suc k) i
+  pub enough : (m k i : ℕ) → length es ≤ m + i → length es ≤ k + i → walk es low high cs l m i ≡ walk es low high cs l k i
   unfolding walk
-  enough-step m k i rest = go (ltb i (length es)) (labelled es low high l i) (ltb i (nextIn cs i)) refl
-    where
-      go : (t u v : Bool) → ltb i (nextIn cs i) ≡ v
-          → cond t (cond u i (cond v (walk es low high cs l m (nextIn cs i)) (length es))) (length es)
-          ≡ cond t (cond u i (cond v (walk es low high cs l k (nextIn cs i)) (length es))) (length es)
-      go true true v e = refl
-      go true false true e = rest e
-      go true false false e = refl
-      go false u v e = refl
-
-  enough : (m k i : ℕ) → length es ≤ m + i → length es ≤ k + i → walk es low high cs l m i ≡ walk es low high cs l k i
   enough zero k i a b = walk-past zero i (omega arith) ∙ sym (walk-past k i (omega arith))
   enough (suc m) zero i a b = walk-past (suc m) i (omega arith) ∙ sym (walk-past zero i (omega arith))
   enough (suc m) (suc k) i a b =
-      enough-step m k i (λ e. let h : i < nextIn cs i = ltb-true i (nextIn cs i) e in enough m k (nextIn cs i) (omega arith) (omega arith))
+      ap (λ (z : ℕ). cond (ltb i (length es)) (cond (labelled es low high l i) i z) (length es)) (cond-when (ltb i (nextIn cs i)) _ _ (length es)
+      (λ e. let h : i < nextIn cs i = ltb-true i (nextIn cs i) e in enough m k (nextIn cs i) (omega arith) (omega arith)))
 
   -- the walk with as many steps as there are entries from i on
   abbrev pub rest-from : ℕ → ℕ
   rest-from i = walk es low high cs l (length es - i) i
-
-  pub rest-start : (n i : ℕ) → n ≡ length es → walk es low high cs l n i ≡ rest-from i
-  rest-start n i e = enough n (length es - i) i (omega arith) (omega arith)
-
-  pub rest-past : (i : ℕ) → length es ≤ i → rest-from i ≡ length es
-  rest-past i h = walk-past (length es - i) i h
 
   module _ (i : ℕ) (h : i < length es) where
     one-more : length es - i ≡ suc (length es - suc i)
@@ -82,23 +62,13 @@ module _ (es : List Entry) (low high : ℕ) (cs : List ℕ) (l : Label) where
 
     module _ (e : labelled es low high l i ≡ false) where
       pub rest-stop : nextIn cs i ≤ i → rest-from i ≡ length es
-      rest-stop f = rw one-more (walk-stop (length es - suc i) i h e f)
+      unfolding walk
+      rest-stop f = rw (one-more, lt-ltb i (length es) h, e, le-ltb i (nextIn cs i) f)
 
       pub rest-next : i < nextIn cs i → rest-from i ≡ rest-from (nextIn cs i)
       rest-next f =
           rw one-more (walk-next (length es - suc i) i h e f)
           ∙ enough (length es - suc i) (length es - nextIn cs i) (nextIn cs i) (omega arith) (omega arith)
-
--- ---- a find
-
-module _ (es : List Entry) (low high : ℕ) (cs : List ℕ) (l : Label) (n : ℕ) (e : n ≡ length es) where
-  pub find-none : room n (length cs) ≡ false → n ≡ walkOf es low high cs l
-  unfolding walkOf
-  find-none f = rw (← e, f) refl
-
-  pub find-walk : room n (length cs) ≡ true → (h i : ℕ) → h ≡ hashOf l → i ≡ getD cs h 0 → walk es low high cs l n i ≡ walkOf es low high cs l
-  unfolding walkOf
-  find-walk f h i eh ei = rw (← e, f, ← eh, ← ei) refl
 
 -- ---- tables that hold the chains
 
@@ -107,7 +77,7 @@ made-chained : {es : List Entry} {low high : ℕ} {cs after : List ℕ} {answer 
 made-chained {es} {low} {high} {cs} {after} m e =
     let r : room (length es) (length cs) ≡ true = sym (m .told) ∙ e in
     let is : after ≡ tableOf es low high cs = rw r at (m .table) in
-    let long : length after ≡ length cs = ap length is ∙ table-long es low high cs (room-fits (length es) (length cs) r) in
+    let long : length after ≡ length cs = ap length is ∙ table-long es low high cs (says-room (length es) (length cs) .so r .1) in
     record {
       roomy = rw long r;
       head = λ h b. rw is (table-head es low high cs h b);
@@ -117,35 +87,29 @@ made-chained {es} {low} {high} {cs} {after} m e =
 -- of a table that has room for the most records of a page
 pub chained : {es : List Entry} {low high : ℕ} {cs after : List ℕ} {answer : Bool} → length es ≤ mostRecords → Made es low high cs answer after → length cs ≡ chains + mostRecords
     → Chained es low high after
-chained {es = es} {cs = cs} few m long = made-chained m (m .told ∙ room-so (length es) (length cs) (omega (arith, few)) (omega (arith, few, long)))
+chained {es = es} {cs = cs} few m long = made-chained m (m .told ∙ says-room (length es) (length cs) .back (omega (arith, few), omega (arith, few, long)))
 
 module _ (es : List Entry) (lo hi low high : ℕ) (cs : List ℕ) (l : Label) (c : Chained es lo hi cs) (above : lo ≤ low) (below : high ≤ hi) where
   inside : (kind : ℕ) → within low high kind ≡ true → within lo hi kind ≡ true
   inside kind e =
-      let w = says-and (says-le low kind) (says-le kind high) .so e in
-      says-and (says-le lo kind) (says-le kind hi) .back (omega (arith, w .0), omega (arith, w .1))
+      let w = says-within low high kind .so e in
+      says-within lo hi kind .back (omega (arith, w .0), omega (arith, w .1))
 
   -- what has the label has its hash
   labelled-hashed : (i : ℕ) → labelled es low high l i ≡ true → hashed es lo hi (hashOf l) i ≡ true
   unfolding labelled
   labelled-hashed i e =
-      hashed-at es lo hi (hashOf l) i (inside (kindNo es i) (and-first (within low high (kindNo es i)) _ e))
-      (ap hashOf (says-same (nameNo es i) l .so (and-second (within low high (kindNo es i)) (same (nameNo es i) l) e)))
+      let w = says-and says-so (says-same (nameNo es i) l) .so e in
+      says-hashed es lo hi (hashOf l) i .back (inside (kindNo es i) (w .0), ap hashOf (w .1))
 
   module _ (i : ℕ) (lt : i < length es) (h : hashed es lo hi (hashOf l) i ≡ true) where
     next-is : nextIn cs i ≡ from (hashed es lo hi (hashOf l)) (length es) (i + 1)
     next-is =
-        let w = hashed-says es lo hi (hashOf l) i h in
+        let w = says-hashed es lo hi (hashOf l) i .so h in
         c .next i lt ∙ next-in es lo hi i (w .0) ∙ ap (λ (k : ℕ). from (hashed es lo hi k) (length es) (i + 1)) (w .1)
 
-    next-up : i < nextIn cs i
-    next-up = rw next-is (omega (arith, from-after (hashed es lo hi (hashOf l)) (length es) (i + 1)))
-
-    next-inside : nextIn cs i ≤ length es
-    next-inside = rw next-is (from-up-to (hashed es lo hi (hashOf l)) (length es) (i + 1) (omega arith))
-
-    next-hashed : nextIn cs i < length es → hashed es lo hi (hashOf l) (nextIn cs i) ≡ true
-    next-hashed k = rw next-is (from-true (hashed es lo hi (hashOf l)) (length es) (i + 1) (omega arith) (rw next-is at k))
+    next-first : FirstIs (hashed es lo hi (hashOf l)) (length es) (i + 1) (nextIn cs i)
+    next-first = rw next-is (from-is (hashed es lo hi (hashOf l)) (length es) (i + 1) (omega arith))
 
     next-rest : labelled es low high l i ≡ false → from (labelled es low high l) (length es) i ≡ from (labelled es low high l) (length es) (nextIn cs i)
     next-rest e =
@@ -158,32 +122,29 @@ module _ (es : List Entry) (lo hi low high : ℕ) (cs : List ℕ) (l : Label) (c
       let z : length es ≡ i = omega arith in
       walk-past es low high cs l m i k ∙ z ∙ sym (from-end (labelled es low high l) (length es) i k)
 
-  step : (m i : ℕ) → i < length es → (t : Bool) → labelled es low high l i ≡ t
-      → (labelled es low high l i ≡ false → walk es low high cs l m (nextIn cs i) ≡ from (labelled es low high l) (length es) i) → i < nextIn cs i
-      → walk es low high cs l (suc m) i ≡ from (labelled es low high l) (length es) i
-  step m i lt true e rest up = walk-here es low high cs l m i lt e ∙ sym (from-stop (labelled es low high l) (length es) i lt e)
-  step m i lt false e rest up = walk-next es low high cs l m i lt e up ∙ rest e
-
-  start-is : getD cs (hashOf l) 0 ≡ from (hashed es lo hi (hashOf l)) (length es) 0
-  unfolding headOf
-  start-is = c .head (hashOf l) (hash-small 0 l (omega arith))
-
   walked : (m i : ℕ) → length es ≤ m + i → i ≤ length es → (i < length es → hashed es lo hi (hashOf l) i ≡ true) → walk es low high cs l m i ≡ from (labelled es low high l) (length es) i
   walked zero i a b h = walked-past zero i b (omega arith)
   walked (suc m) i a b h =
       elim (decLt i (length es)) [
-        | yes lt ↦ step m i lt (labelled es low high l i) refl (λ e. walked m (nextIn cs i) (omega (arith, next-up i lt (h lt))) (next-inside i lt (h lt)) (next-hashed i lt (h lt)) ∙ sym (next-rest i lt (h lt) e)) (next-up i lt (h lt))
+        | yes lt ↦ (let f = next-first i lt (h lt) in
+            go lt (labelled es low high l i) refl (omega (arith, f .after)) (walked m (nextIn cs i) (omega (arith, f .after)) (f .up-to) (f .passes)))
         | no f ↦ walked-past (suc m) i b (omega (arith, f))
       ]
+    where
+      go : (lt : i < length es) (t : Bool) → labelled es low high l i ≡ t → i < nextIn cs i → walk es low high cs l m (nextIn cs i) ≡ from (labelled es low high l) (length es) (nextIn cs i)
+          → walk es low high cs l (suc m) i ≡ from (labelled es low high l) (length es) i
+      go lt true e up rest = walk-here es low high cs l m i lt e ∙ sym (from-stop (labelled es low high l) (length es) i lt e)
+      go lt false e up rest = walk-next es low high cs l m i lt e up ∙ rest ∙ sym (next-rest i lt (h lt) e)
 
   pub found : walkOf es low high cs l ≡ lowestOr (length es) (labelled es low high l)
-  unfolding walkOf
+  unfolding walkOf headOf
   found =
       let n = length es in
       let q = hashed es lo hi (hashOf l) in
-      let first : getD cs (hashOf l) 0 ≡ from q n 0 = start-is in
+      let f = from-is q n 0 (omega arith) in
+      let first : getD cs (hashOf l) 0 ≡ from q n 0 = c .head (hashOf l) (hash-small 0 l (omega arith)) in
       rw (c .roomy, first) (
-      walked n (from q n 0) (omega arith) (from-up-to q n 0 (omega arith)) (from-true q n 0 (omega arith))
+      walked n (from q n 0) (omega arith) (f .up-to) (f .passes)
       ∙ sym (skip (labelled es low high l) q labelled-hashed n 0 (omega arith))
       ∙ from-plain (labelled es low high l) n
       )

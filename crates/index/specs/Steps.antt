@@ -11,11 +11,11 @@ pub record Emptied (v : ℕ) (before cs : List ℕ) : Type 0 where
   pub heads : (h : ℕ) → h < chains → getD cs h 0 ≡ v
   pub rest : (i : ℕ) → chains ≤ i → getD cs i 0 ≡ getD before i 0
 
--- a table that holds the chains of the entries from k on
-pub record Links (es : List Entry) (low high k : ℕ) (before cs : List ℕ) : Type 0 where
+-- a table that holds the heads of the chains of the entries from k on, and the nexts of those from m on
+pub record Links (es : List Entry) (low high k m : ℕ) (before cs : List ℕ) : Type 0 where
   pub few : length es ≤ most
   pub fits : chains + length es ≤ length cs
   pub as-long : length cs ≡ length before
   pub head : (h : ℕ) → h < chains → getD cs h 0 ≡ from (hashed es low high h) (length es) k
-  pub next : (i : ℕ) → k ≤ i → i < length es → nextIn cs i ≡ nextOf es low high i
+  pub next : (i : ℕ) → m ≤ i → i < length es → nextIn cs i ≡ nextOf es low high i
   pub behind : (i : ℕ) → chains + length es ≤ i → getD cs i 0 ≡ getD before i 0

@@ -69,8 +69,8 @@ fn empty(chains: &mut [u16], v: u16)
 
 // From the last record to the first: each goes to the front of its chain.
 fn link(text: &[u8], records: &[u8], low: u8, high: u8, chains: &mut [u16])
-    requires { ⌜ Links (drawn (now text) (now records)) low high (records-in (now records)) (now chains) (now chains) ⌝ }
-    ensures { λ _. ⌜ Links (drawn (now (text .entry)) (now (records .entry))) low high 0 (now (chains .entry)) (now (chains .exit)) ⌝ }
+    requires { ⌜ Links (drawn (now text) (now records)) low high (records-in (now records)) (records-in (now records)) (now chains) (now chains) ⌝ }
+    ensures { λ _. ⌜ Links (drawn (now (text .entry)) (now (records .entry))) low high 0 0 (now (chains .entry)) (now (chains .exit)) ⌝ }
 {
     let n = records.len() / SIZE;
     let mut i = n;

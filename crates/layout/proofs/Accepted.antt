@@ -2,6 +2,7 @@
 -- Assumes nothing.
 use mathlib.Core.Path.{_≡_, refl, _∙_, ap}
 use Prim.Native.Nat.{ℕ, suc, _+_, _*_, _≤_, _<_}
+use borrow.Author.Needs.{needs}
 use native.Mathlib.Omega.{arith}
 use native.Mathlib.Nat.{suc-mul, zero-add}
 use mathlib.Core.List.{List, [], _∷_, _++_, append-assoc, append-nil, map}
@@ -20,7 +21,7 @@ use Rattle.layout.specs.Run.{Act, push, done, act, takes, run, taken, ru
 use Rattle.refusal.specs.First.{passed}
 use Rattle.refusal.proofs.Once.{answered-passed}
 use Rattle.layout.proofs.Laws.{Can, can-be, Fits, fits-passes, done-passes}
-use Rattle.layout.proofs.Runs.{Kept, kept-filled, kept-act, kept-laid, kept-empty, ids-length, values-length, slots-more}
+use Rattle.layout.proofs.Runs.{Kept, kept-filled, kept-act, kept-laid, kept-empty, ids-length, values-length}
 
 -- the layout with n more of a kind
 abbrev more : ShapeKind → ℕ → Layout → Layout
@@ -48,54 +49,17 @@ module _ (first : State) where
     in-values : slotCount l + n * sizeOf k ≤ length (first .values)
     left : first .next + (slotCount l + n * sizeOf k) ≤ idsEnd
 
-  free : (k : ShapeKind) (n : ℕ) (l : Layout) → l .points ≤ mostShapes → l .circles ≤ mostShapes → l .arcs ≤ mostShapes
-      → (0 < l .circles → 1 ≤ stageNumber (l .stage)) → (0 < l .arcs → 2 ≤ stageNumber (l .stage)) → stageNumber (l .stage) ≡ stageDue k → shapesIn k l + n ≤ mostShapes
-      → slotCount l + n * sizeOf k ≤ length (first .ids) → slotCount l + n * sizeOf k ≤ length (first .values) → first .next + (slotCount l + n * sizeOf k) ≤ idsEnd → Free k n l
-  free k n l p c a lc la d r i v e =
-      record { be = record { counts = record { points = p; circles = c; arcs = a }; circles-late = lc; arcs-late = la }; due = d; room = r; in-ids = i; in-values = v; left = e }
-
   free-fits : (k : ShapeKind) (n : ℕ) (xs : List Shape) (s : State) → Kept first xs s → Free k (suc n) (s .layout) → Fits k (s .layout) (s .next) (length (s .ids)) (length (s .values))
   free-fits k n xs s h f =
       let e = suc-mul n (sizeOf k) in
       let i = ids-length first xs s h in
       let v = values-length first xs s h in
-      record {
-        counts = f .be .counts;
-        due = f .due;
-        room = omega (arith, f .room);
-        in-ids = omega (arith, f .in-ids);
-        in-values = omega (arith, f .in-values);
-        left = omega (arith, f .left, h .next-is, h .slots);
-      }
-
-  can-more : (k : ShapeKind) (l : Layout) → Can l → stageNumber (l .stage) ≡ stageDue k → shapesIn k l < mostShapes → Can (withOne k l)
-  can-more K.Point l h d r = record { counts = record { points = omega arith; circles = h .counts .circles; arcs = h .counts .arcs }; circles-late = h .circles-late; arcs-late = h .arcs-late }
-  can-more K.Circle l h d r = record { counts = record { points = h .counts .points; circles = omega arith; arcs = h .counts .arcs }; circles-late = λ z. omega arith; arcs-late = h .arcs-late }
-  can-more K.Arc l h d r = record { counts = record { points = h .counts .points; circles = h .counts .circles; arcs = omega arith }; circles-late = h .circles-late; arcs-late = λ z. omega arith }
-
-  same-stage : (k : ShapeKind) (l : Layout) → withOne k l .stage ≡ l .stage
-  same-stage K.Point l = refl
-  same-stage K.Circle l = refl
-  same-stage K.Arc l = refl
-
-  one-more : (k : ShapeKind) (l : Layout) → shapesIn k (withOne k l) ≡ shapesIn k l + 1
-  one-more K.Point l = refl
-  one-more K.Circle l = refl
-  one-more K.Arc l = refl
+      search needs
 
   free-more : (k : ShapeKind) (n : ℕ) (l : Layout) → Free k (suc n) l → Free k n (withOne k l)
-  free-more k n l f =
-      let e = suc-mul n (sizeOf k) in
-      let s = slots-more k l in
-      let c = one-more k l in
-      record {
-        be = can-more k l (f .be) (f .due) (omega (arith, f .room));
-        due = rw (same-stage k l) (f .due);
-        room = omega (arith, f .room);
-        in-ids = omega (arith, f .in-ids);
-        in-values = omega (arith, f .in-values);
-        left = omega (arith, f .left);
-      }
+  free-more K.Point n l f = search needs
+  free-more K.Circle n l f = search needs
+  free-more K.Arc n l f = search needs
 
   -- shapes of a kind, and `done` after them, with whatever follows
   record Leg (k : ShapeKind) (shapes ys : List Shape) (s : State) : Type 0 where
@@ -146,20 +110,20 @@ module _ (next : ℕ) (ids : List ℕ) (values : List Float) (ps : List Point) (
   after-points : Leg first K.Point (map point ps) [] first
   after-points =
       leg first point K.Point (λ p. refl) ps [] first (kept-empty next ids values)
-      (free first K.Point (length ps) empty (omega arith) (omega arith) (omega arith) (λ h. omega arith) (λ h. omega arith) refl (omega arith) (omega arith) (omega arith) (omega arith))
+      (search needs)
 
   after-circles : Leg first K.Circle (map circle cs) (map point ps) (after-points .last)
   after-circles =
       let n = length-map ps point in
       leg first circle K.Circle (λ c. refl) cs (map point ps) (after-points .last) (after-points .keeps)
-      (rw (after-points .layout-is) (free first K.Circle (length cs) _ (omega arith) (omega arith) (omega arith) (λ h. omega arith) (λ h. omega arith) refl (omega arith) (omega arith) (omega arith) (omega arith)))
+      (rw (after-points .layout-is) (search needs))
 
   after-arcs : Leg first K.Arc (map arc xs) (map point ps ++ map circle cs) (after-circles .last)
   after-arcs =
       let n = length-map ps point in
       let m = length-map cs circle in
       leg first arc K.Arc (λ a. refl) xs (map point ps ++ map circle cs) (after-circles .last) (after-circles .keeps)
-      (rw (after-circles .layout-is, after-points .layout-is) (free first K.Arc (length xs) _ (omega arith) (omega arith) (omega arith) (λ h. omega arith) (λ h. omega arith) refl (omega arith) (omega arith) (omega arith) (omega arith)))
+      (rw (after-circles .layout-is, after-points .layout-is) (search needs))
 
   ends : run (runOf ps cs xs) first ≡ after-arcs .last
   unfolding run

@@ -27,13 +27,12 @@ module _ (l : Layout) (ids : List ℕ) (possible : impossible l ≡ false) (long
   agree (inl e) i h = let same : l .points * 2 + i * 6 ≡ slotOf Arc l i = omega arith in ap (arcIdsAt l ids i) same
   agree (inr e) i h = absurd (omega arith)
 
-  -- the first ids of two arcs that are found alike
-  first-id : (at at′ : ℕ) → AI.Found (arcVars ids at) ≡ AI.Found (arcVars ids at′) → getD ids at 0 ≡ getD ids at′ 0
-  first-id at at′ e = let v : arcVars ids at ≡ arcVars ids at′ = cc in ap (λ (v : ArcVars). v .start .x) v
-
+  -- the first ids of the first arc
   first-arc : 0 < l .arcs → arcIds l ids 0 ≡ arcSlotIds l ids 0 → getD ids (l .points * 2 + 0 * 6) 0 ≡ getD ids (slotOf Arc l 0) 0
   unfolding arcIds arcSlotIds
-  first-arc h e = first-id _ _ (sym (found 0 (l .points * 2 + 0 * 6) h) ∙ e ∙ found 0 (slotOf Arc l 0) h)
+  first-arc h e =
+      let v : arcVars ids (l .points * 2 + 0 * 6) ≡ arcVars ids (slotOf Arc l 0) = cc (sym (found 0 (l .points * 2 + 0 * 6) h) ∙ e ∙ found 0 (slotOf Arc l 0) h) in
+      ap (λ (v : ArcVars). v .start .x) v
 
   pub circles-or-arcs : Distinct (slotCount l) ids → ((i : ℕ) → i < l .arcs → arcIds l ids i ≡ arcSlotIds l ids i) → (l .circles ≡ 0) ⊎ (l .arcs ≡ 0)
   circles-or-arcs distinct same = by-count (l .arcs) refl

@@ -33,10 +33,6 @@ neither : (a b : Bool) → (a || b) ≡ false → (a ≡ false) × (b ≡ false)
 neither true b e = let z : _≡_ {A = ℕ} 0 1 = cc in absurd (omega arith)
 neither false b e = (refl, e)
 
--- some of a kind, and a stage too early for them
-late : (m stage due : ℕ) → (ltb 0 m && ltb stage due) ≡ false → 0 < m → due ≤ stage
-late m stage due e h = ltb-false _ _ (rw (lt-ltb 0 m h) at e)
-
 never-early : (m stage due : ℕ) → (0 < m → due ≤ stage) → (ltb 0 m && ltb stage due) ≡ false
 never-early zero stage due h = refl
 never-early (suc m) stage due h = rw (le-ltb stage due (h (omega arith))) (and-false (ltb 0 (suc m)))
@@ -47,31 +43,17 @@ pub record Can (l : Layout) : Type 0 where
   pub circles-late : 0 < l .circles → 1 ≤ stageNumber (l .stage)
   pub arcs-late : 0 < l .arcs → 2 ≤ stageNumber (l .stage)
 
-pub can : (l : Layout) → impossible l ≡ false → Can l
-unfolding impossible
-can l e =
-    let p = ltb mostShapes (l .points) in
-    let c = ltb mostShapes (l .circles) in
-    let a = ltb mostShapes (l .arcs) in
-    let early-c = ltb 0 (l .circles) && ltb (stageNumber (l .stage)) 1 in
-    let early-a = ltb 0 (l .arcs) && ltb (stageNumber (l .stage)) 2 in
-    let rest = neither (p || c || a || early-c) early-a e in
-    let most = neither (p || c || a) early-c (rest .0) in
-    let two = neither (p || c) a (most .0) in
-    let one = neither p c (two .0) in
-    record {
-      counts = record { points = ltb-false _ _ (one .0); circles = ltb-false _ _ (one .1); arcs = ltb-false _ _ (two .1) };
-      circles-late = late _ _ _ (most .1);
-      arcs-late = late _ _ _ (rest .1);
-    }
-
 pub can-be : (l : Layout) → Can l → impossible l ≡ false
 unfolding impossible
 can-be l h =
     rw (le-ltb _ _ (h .counts .points), le-ltb _ _ (h .counts .circles), le-ltb _ _ (h .counts .arcs), never-early _ _ 1 (h .circles-late), never-early _ _ 2 (h .arcs-late))
 
 pub small : (l : Layout) → impossible l ≡ false → Small l
-small l e = can l e .counts
+unfolding impossible
+small l e =
+    let two = neither _ _ (neither _ _ (neither _ _ e .0) .0) in
+    let one = neither _ _ (two .0) in
+    record { points = ltb-false _ _ (one .0); circles = ltb-false _ _ (one .1); arcs = ltb-false _ _ (two .1) }
 
 pub count-small : (k : ShapeKind) (l : Layout) → Small l → shapesIn k l ≤ mostShapes
 count-small Point l s = s .points
@@ -208,6 +190,10 @@ done-passes l e n = clear-passes (barsDone l) doneOrder (e, (ne-eqb _ _ n, tt))
 module _ (k : ShapeKind) (l : Layout) (len i : ℕ) where
   abbrev LookTold : Place → Type 0
   LookTold p = p ≡ answered reasonNumber Not (lookTold k l len i) (At (slotOf k l i))
+
+  -- a place that is refused is a refusal of what asked for it
+  pub look-refused : {A : Type 0} (refuse : Refusal → A) (good : A) (r : Refusal) → LookTold (Not r) → refuse r ≡ answered reasonNumber refuse (lookTold k l len i) good
+  look-refused refuse good r e = as-refused _ _ _ e refuse good r refl
 
   pub look-impossible : impossible l ≡ true → LookTold (Not (told cannot-be))
   unfolding answered lookTold once first lowest

@@ -4,19 +4,21 @@ use mathlib.Core.Path.{_≡_, refl, sym, _∙_, ap}
 use mathlib.Core.Bool.{false}
 use mathlib.Core.List.{List, [], _∷_, _++_, append-assoc, append-nil, map}
 use Prim.Native.Nat.{ℕ, zero, suc, _+_, _*_, _≤_, _<_}
+use borrow.Author.Needs.{needs}
 use native.Mathlib.Omega.{arith}
-use native.Mathlib.Nat.{suc-mul, zero-mul, zero-add}
+use native.Mathlib.Nat.{suc-mul, zero-mul, zero-add, add-zero}
 use lib.ListN.{length, getD, set, length-set, length-append, List·getD-append}
 use lib.Seq.{getD-set-same, getD-set-other, getD-append-add}
 use lib.Ieee.{Float, nan}
 use borrow.Author.Count.{below-none, below-more}
 use Rattle.layout.specs.declared.ShapeKind.{ShapeKind}
 use Rattle.layout.specs.declared.ShapeKind.the-variants as K
+use Rattle.layout.specs.declared.Stage.the-variants.{Done}
 use Rattle.layout.specs.declared.Layout.{Layout}
 use Rattle.layout.specs.declared.Point.{Point}
 use Rattle.layout.specs.declared.Circle.{Circle}
 use Rattle.layout.specs.declared.Arc.{Arc}
-use Rattle.layout.specs.Slots.{Shape, point, circle, arc, kindOf, components, sizeOf, shapesIn, slotCount, slotOf, empty}
+use Rattle.layout.specs.Slots.{Shape, point, circle, arc, kindOf, components, sizeOf, shapesIn, slotCount, kindStart, slotOf, empty}
 use Rattle.layout.specs.Refusals.{reasonNumber, impossible}
 use Rattle.layout.specs.Push.{State, state}
 use Rattle.layout.specs.Look.{pointRead, circleRead, arcRead}
@@ -37,14 +39,11 @@ abbrev pub At : ShapeKind → List Float → ℕ → ℕ → Type 0
 At k values at j = getD (components (shapeAt k values at)) j nan ≡ getD values (at + j) nan
 
 pub part-at : (k : ShapeKind) (values : List Float) (at j : ℕ) → j < sizeOf k → At k values at j
-part-at k values at =
-    let here : getD values at nan ≡ getD values (at + 0) nan = let e : at ≡ at + 0 = omega arith in ap (λ (n : ℕ). getD values n nan) e in
-    by-kind k here
-  where
-    by-kind : (k : ShapeKind) → getD values at nan ≡ getD values (at + 0) nan → (j : ℕ) → j < sizeOf k → At k values at j
-    by-kind K.Point here = let more = below-more (At K.Point values at) in more 1 (more 0 (below-none (At K.Point values at)) here) refl
-    by-kind K.Circle here = let more = below-more (At K.Circle values at) in more 2 (more 1 (more 0 (below-none (At K.Circle values at)) here) refl) refl
-    by-kind K.Arc here = let more = below-more (At K.Arc values at) in more 5 (more 4 (more 3 (more 2 (more 1 (more 0 (below-none (At K.Arc values at)) here) refl) refl) refl) refl) refl
+part-at K.Point values at = let more = below-more (At K.Point values at) in more 1 (more 0 (below-none (At K.Point values at)) (rw add-zero)) refl
+part-at K.Circle values at = let more = below-more (At K.Circle values at) in more 2 (more 1 (more 0 (below-none (At K.Circle values at)) (rw add-zero)) refl) refl
+part-at K.Arc values at =
+    let more = below-more (At K.Arc values at) in
+    more 5 (more 4 (more 3 (more 2 (more 1 (more 0 (below-none (At K.Arc values at)) (rw add-zero)) refl) refl) refl) refl) refl
 
 abbrev part : ShapeKind → ℕ → ℕ → Component
 part k i j = record { kind = k; shape = i; place = j }
@@ -88,12 +87,10 @@ module _ (l : Layout) (values : List Float) (possible : impossible l ≡ false) 
 
 -- a shape is read out where its components stand
 shape-there : (shape : Shape) (values : List Float) (at : ℕ) → ((j : ℕ) → j < sizeOf (kindOf shape) → getD values (at + j) nan ≡ getD (components shape) j nan) → shapeAt (kindOf shape) values at ≡ shape
-shape-there shape values at h = by-shape shape (let e : at ≡ at + 0 = omega arith in ap (λ (n : ℕ). getD values n nan) e) h
-  where
-    by-shape : (shape : Shape) → getD values at nan ≡ getD values (at + 0) nan → ((j : ℕ) → j < sizeOf (kindOf shape) → getD values (at + j) nan ≡ getD (components shape) j nan) → shapeAt (kindOf shape) values at ≡ shape
-    by-shape (point p) here h = rw (here, h 0 (omega arith), h 1 (omega arith))
-    by-shape (circle c) here h = rw (here, h 0 (omega arith), h 1 (omega arith), h 2 (omega arith))
-    by-shape (arc a) here h = rw (here, h 0 (omega arith), h 1 (omega arith), h 2 (omega arith), h 3 (omega arith), h 4 (omega arith), h 5 (omega arith))
+shape-there (point p) values at h = rw (rw add-zero at (h 0 (omega arith)), h 1 (omega arith))
+shape-there (circle c) values at h = rw (rw add-zero at (h 0 (omega arith)), h 1 (omega arith), h 2 (omega arith))
+shape-there (arc a) values at h =
+    rw (rw add-zero at (h 0 (omega arith)), h 1 (omega arith), h 2 (omega arith), h 3 (omega arith), h 4 (omega arith), h 5 (omega arith))
 
 module _ {X : Type 0} (make : X → Shape) (k : ShapeKind) (is : (x : X) → kindOf (make x) ≡ k) where
   size-of : (x : X) → length (components (make x)) ≡ sizeOf k
@@ -132,47 +129,40 @@ module _ (next : ℕ) (ids : List ℕ) (values : List Float) (ps : List Point) (
   known : AllIn (state empty next ids values) ps cs xs
   known = all-in next ids values ps cs xs room
 
-  points-are : l .points ≡ length ps
-  points-are = ap (λ (z : Layout). z .points) (known .layout-is)
-
-  circles-are : l .circles ≡ length cs
-  circles-are = ap (λ (z : Layout). z .circles) (known .layout-is)
-
-  arcs-are : l .arcs ≡ length xs
-  arcs-are = ap (λ (z : Layout). z .arcs) (known .layout-is)
+  counted : (k : ShapeKind) → shapesIn k l ≡ shapesIn k (record { points = length ps; circles = length cs; arcs = length xs; stage = Done })
+  counted k = ap (shapesIn k) (known .layout-is)
 
   possible : impossible l ≡ false
-  possible = rw (known .layout-is) (can-be _ (record { counts = record { points = room .points; circles = room .circles; arcs = room .arcs }; circles-late = λ h. omega arith; arcs-late = λ h. omega arith }))
+  possible = rw (known .layout-is) (can-be _ (search needs))
 
   long : slotCount l ≤ length (last .values)
-  long = omega (arith, points-are, circles-are, arcs-are, room .in-values, known .all-laid .values-length)
-
-  -- the slots hold the components, however they are grouped
-  there : (k : ShapeKind) (i : ℕ) (all : List Float) → i < shapesIn k l → allComponents (shapesOf ps cs xs) ≡ all → (j : ℕ) → j < sizeOf k → getD (last .values) (slotOf k l i + j) nan ≡ getD all (slotOf k l i + j) nan
-  there k i all h e j b = known .all-laid .value-at (slotOf k l i + j) (omega (arith, slot-inside k l i h)) ∙ ap (λ (z : List Float). getD z (slotOf k l i + j) nan) e
+  long = omega (arith, counted K.Point, counted K.Circle, counted K.Arc, room .in-values, known .all-laid .values-length)
 
   grouped : allComponents (shapesOf ps cs xs) ≡ allComponents (map point ps) ++ (allComponents (map circle cs) ++ allComponents (map arc xs))
-  grouped = all-append (map point ps) (map circle cs ++ map arc xs) ∙ rw (all-append (map circle cs) (map arc xs)) refl
+  grouped = all-append (map point ps) (map circle cs ++ map arc xs) ∙ rw (all-append (map circle cs) (map arc xs))
 
-  last-grouped : allComponents (map point ps) ++ (allComponents (map circle cs) ++ allComponents (map arc xs)) ≡ (allComponents (map point ps) ++ allComponents (map circle cs)) ++ (allComponents (map arc xs) ++ [])
-  last-grouped = rw (append-assoc, append-nil) refl
+  -- shape i of those of a kind, between a front and a rest
+  read-one : {X : Type 0} (make : X → Shape) (k : ShapeKind) → ((x : X) → kindOf (make x) ≡ k) → (front rest : List Float) (ys : List X)
+      → allComponents (shapesOf ps cs xs) ≡ front ++ (allComponents (map make ys) ++ rest) → length front ≡ kindStart k l → length ys ≡ shapesIn k l
+      → (i : ℕ) (other : X) → i < length ys → Reads k l (last .values) i × (shapeAt k (last .values) (slotOf k l i) ≡ make (getD ys i other))
+  read-one make k is front rest ys e f n i other h =
+      let c : i < shapesIn k l = omega arith in
+      let there : (j : ℕ) → j < sizeOf k → getD (last .values) (slotOf k l i + j) nan ≡ getD (front ++ (allComponents (map make ys) ++ rest)) (slotOf k l i + j) nan
+      = λ j b. known .all-laid .value-at (slotOf k l i + j) (omega (arith, slot-inside k l i c)) ∙ ap (λ (z : List Float). getD z (slotOf k l i + j) nan) e in
+      (reads l (last .values) possible long k i c, shape-read make k is front rest (last .values) ys (slotOf k l i) other i h (omega arith) there)
 
   pub read-back : ReadBack last ps cs xs
-  read-back = record {
-    points = λ i other h.
-        let c : i < l .points = omega (arith, points-are) in
-        let e = shape-read point K.Point (λ p. refl) [] _ (last .values) ps (slotOf K.Point l i) other i h (omega arith) (there K.Point i _ c grouped) in
-        reads l (last .values) possible long K.Point i c ∙ ap PR.Found (cc e);
-    circles = λ i other h.
-        let c : i < l .circles = omega (arith, circles-are) in
-        let n = all-length point K.Point (λ p. refl) ps in
-        let e = shape-read circle K.Circle (λ c. refl) (allComponents (map point ps)) _ (last .values) cs (slotOf K.Circle l i) other i h (omega (arith, points-are)) (there K.Circle i _ c grouped) in
-        reads l (last .values) possible long K.Circle i c ∙ ap CR.Found (cc e);
-    arcs = λ i other h.
-        let c : i < l .arcs = omega (arith, arcs-are) in
-        let n = all-length point K.Point (λ p. refl) ps in
-        let m = all-length circle K.Circle (λ c. refl) cs in
-        let s = length-append (allComponents (map point ps)) (allComponents (map circle cs)) in
-        let e = shape-read arc K.Arc (λ a. refl) (allComponents (map point ps) ++ allComponents (map circle cs)) [] (last .values) xs (slotOf K.Arc l i) other i h (omega (arith, points-are, circles-are)) (there K.Arc i _ c (grouped ∙ last-grouped)) in
-        reads l (last .values) possible long K.Arc i c ∙ ap AR.Found (cc e);
-  }
+  read-back =
+      let n = all-length point K.Point (λ p. refl) ps in
+      let m = all-length circle K.Circle (λ c. refl) cs in
+      let s = length-append (allComponents (map point ps)) (allComponents (map circle cs)) in
+      record {
+        points = λ i other h. let r = read-one point K.Point (λ p. refl) [] _ ps grouped refl (sym (counted K.Point)) i other h in r .0 ∙ ap PR.Found (cc (r .1));
+        circles = λ i other h.
+            let r = read-one circle K.Circle (λ c. refl) (allComponents (map point ps)) _ cs grouped (omega (arith, counted K.Point)) (sym (counted K.Circle)) i other h in
+            r .0 ∙ ap CR.Found (cc (r .1));
+        arcs = λ i other h.
+            let r = read-one arc K.Arc (λ a. refl) (allComponents (map point ps) ++ allComponents (map circle cs)) [] xs (grouped ∙ rw (append-assoc, append-nil))
+            (omega (arith, counted K.Point, counted K.Circle)) (sym (counted K.Arc)) i other h in
+            r .0 ∙ ap AR.Found (cc (r .1));
+      }

@@ -9,10 +9,6 @@ use Rattle.layout.specs.declared.Place.{Place}
 use Rattle.layout.specs.declared.Place.the-variants.{At, Not}
 use Rattle.layout.specs.Refusals.{Reason, reasonNumber}
 
--- a place is no refusal
-place-good : (at : ℕ) (r : Refusal) → Not r ≡ At at → ⊥
-place-good at r e = let z : _≡_ {A = ℕ} 0 1 = cc in omega arith
-
 -- a refusal that is told for a place is told for any answer
 refusal-told : {A : Type 0} (refuse : Refusal → A) (x : Answer Reason) (good : A) (at : ℕ) (r : Refusal) → answered reasonNumber Not x (At at) ≡ Not r → refuse r ≡ answered reasonNumber refuse x good
 unfolding answered
@@ -27,7 +23,7 @@ module _ (x : Answer Reason) (at : ℕ) (place : Place) (asked : place ≡ answe
   module _ (at′ : ℕ) (found : place ≡ At at′) where
     -- where a place is found, nothing is told
     pub is-passed : x ≡ passed
-    is-passed = answered-good reasonNumber Not x (At at) (At at′) (place-good at′) (sym asked ∙ found)
+    is-passed = answered-good reasonNumber Not x (At at) (At at′) (λ r e. let z : _≡_ {A = ℕ} 0 1 = cc in omega arith) (sym asked ∙ found)
 
     -- the place is the one that was meant
     pub the-place : at′ ≡ at

@@ -2,6 +2,7 @@
 -- A push that is taken lays its ids and components right after the slots so far; one that is refused changes nothing. Assumes nothing.
 use mathlib.Core.Path.{_≡_, refl, sym, _∙_, ap}
 use Prim.Native.Nat.{ℕ, _+_, _≤_, _<_}
+use borrow.Author.Needs.{needs}
 use native.Mathlib.Omega.{arith}
 use mathlib.Core.List.{List, [], _∷_, _++_, append-assoc, append-nil}
 use lib.ListN.{length, drop, getD, length-append, length-drop, List·getD-append}
@@ -98,15 +99,9 @@ module _ (first : State) where
       }
 
   kept-stepped : (xs : List Shape) (s : State) → Kept first xs s → Kept first xs (state (stepped (s .layout)) (s .next) (s .ids) (s .values))
-  kept-stepped xs s h = record {
-    counts = λ k. count-stepped k (s .layout) ∙ h .counts k;
-    slots = h .slots;
-    next-is = h .next-is;
-    ids-are = h .ids-are;
-    values-are = h .values-are;
-    in-ids = h .in-ids;
-    in-values = h .in-values;
-  }
+  kept-stepped xs s h =
+      let c : (k : ShapeKind) → shapesIn k (stepped (s .layout)) ≡ howMany k xs = λ k. count-stepped k (s .layout) ∙ h .counts k in
+      search needs
 
   pub kept-act : (a : Act) (xs : List Shape) (s : State) → Kept first xs s → Kept first (xs ++ takes a s) (act a s)
   kept-act (push shape) xs s h =

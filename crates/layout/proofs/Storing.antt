@@ -2,9 +2,10 @@
 use mathlib.Core.Path.{_≡_, refl, sym, _∙_}
 use mathlib.Core.List.{List}
 use Prim.Native.Nat.{ℕ, _+_, _≤_, _<_}
+use borrow.Author.Needs.{needs}
 use native.Mathlib.Omega.{arith}
 use native.Mathlib.Numerals.{add-one}
-use lib.ListN.{length, getD, set, length-set}
+use lib.ListN.{length, getD, set}
 use lib.Seq.{paste, paste-zero, paste-suc, take-length}
 use lib.Ieee.{Float, nan}
 use Rattle.layout.specs.Push.{onward, over}
@@ -30,18 +31,17 @@ module _ (ids₀ : List ℕ) (values₀ : List Float) (at next : ℕ) (guess : L
 
   pub store-start : Storing ids₀ values₀ 0 next
   store-start =
-      record { most = omega arith; id-is = omega arith; ids-length = refl; values-length = refl; ids-are = paste-zero ids₀ at (onward next (length guess)); values-are = paste-zero values₀ at guess }
+      let i = paste-zero ids₀ at (onward next (length guess)) in
+      let v = paste-zero values₀ at guess in
+      search needs
 
   module _ (ids : List ℕ) (values : List Float) (i id : ℕ) (so-far : Storing ids values i id) where
     pub store-turn : at + length guess ≤ length ids₀ → at + length guess ≤ length values₀ → i < length guess → Storing (set ids (at + i) id) (set values (at + i) (getD guess i nan)) (i + 1) (id + 1)
-    store-turn in-ids in-values h = record {
-      most = omega arith;
-      id-is = omega (arith, so-far .id-is);
-      ids-length = simp length-set (so-far .ids-length);
-      values-length = simp length-set (so-far .values-length);
-      ids-are = step ids₀ ids (onward next (length guess)) at i id 0 (omega arith) (rw length-onward h) (so-far .id-is ∙ sym (getD-onward next (length guess) i h)) (so-far .ids-are);
-      values-are = step values₀ values guess at i (getD guess i nan) nan (omega arith) h refl (so-far .values-are);
-    }
+    store-turn in-ids in-values h =
+        let is = step ids₀ ids (onward next (length guess)) at i id 0 (omega arith) (rw length-onward h)
+        (so-far .id-is ∙ sym (getD-onward next (length guess) i h)) (so-far .ids-are) in
+        let v = step values₀ values guess at i (getD guess i nan) nan (omega arith) h refl (so-far .values-are) in
+        search needs
 
     pub store-end : length guess ≤ i → (ids ≡ over ids₀ at (onward next (length guess))) × (values ≡ over values₀ at guess)
     store-end h =

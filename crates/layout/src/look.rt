@@ -39,10 +39,7 @@ fn circle_vars(ids: &[u32], at: usize) -> CircleVars
     ensures { λ r. ⌜ r ≡ circleVars (now (ids .entry)) at ⌝ }
 {
     CircleVars {
-        center: PointVars {
-            x: ids[at],
-            y: ids[at + 1],
-        },
+        center: point_vars(ids, at),
         radius: ids[at + 2],
     }
 }
@@ -53,18 +50,9 @@ fn arc_vars(ids: &[u32], at: usize) -> ArcVars
     ensures { λ r. ⌜ r ≡ arcVars (now (ids .entry)) at ⌝ }
 {
     ArcVars {
-        start: PointVars {
-            x: ids[at],
-            y: ids[at + 1],
-        },
-        end: PointVars {
-            x: ids[at + 2],
-            y: ids[at + 3],
-        },
-        center: PointVars {
-            x: ids[at + 4],
-            y: ids[at + 5],
-        },
+        start: point_vars(ids, at),
+        end: point_vars(ids, at + 2),
+        center: point_vars(ids, at + 4),
     }
 }
 
@@ -85,10 +73,7 @@ fn circle_at(values: &[f64], at: usize) -> Circle
     ensures { λ r. ⌜ r ≡ circleAt (now (values .entry)) at ⌝ }
 {
     Circle {
-        center: Point {
-            x: values[at],
-            y: values[at + 1],
-        },
+        center: point_at(values, at),
         radius: values[at + 2],
     }
 }
@@ -99,18 +84,9 @@ fn arc_at(values: &[f64], at: usize) -> Arc
     ensures { λ r. ⌜ r ≡ arcAt (now (values .entry)) at ⌝ }
 {
     Arc {
-        a: Point {
-            x: values[at],
-            y: values[at + 1],
-        },
-        b: Point {
-            x: values[at + 2],
-            y: values[at + 3],
-        },
-        center: Point {
-            x: values[at + 4],
-            y: values[at + 5],
-        },
+        a: point_at(values, at),
+        b: point_at(values, at + 2),
+        center: point_at(values, at + 4),
     }
 }
 
@@ -119,8 +95,7 @@ impl Layout {
     pub fn point_ids(self, ids: &[u32], i: usize) -> PointIds
         ensures { λ r. ⌜ r ≡ pointIds self (now (ids .entry)) i ⌝ }
     {
-        let place = look_place(self, ShapeKind::Point, ids.len(), i);
-        match place {
+        match look_place(self, ShapeKind::Point, ids.len(), i) {
             Place::Not(r) => PointIds::Refused(r),
             Place::At(at) => PointIds::Found(point_vars(ids, at)),
         }
@@ -130,8 +105,7 @@ impl Layout {
     pub fn circle_ids(self, ids: &[u32], i: usize) -> CircleIds
         ensures { λ r. ⌜ r ≡ circleIds self (now (ids .entry)) i ⌝ }
     {
-        let place = look_place(self, ShapeKind::Circle, ids.len(), i);
-        match place {
+        match look_place(self, ShapeKind::Circle, ids.len(), i) {
             Place::Not(r) => CircleIds::Refused(r),
             Place::At(at) => CircleIds::Found(circle_vars(ids, at)),
         }
@@ -141,8 +115,7 @@ impl Layout {
     pub fn arc_ids(self, ids: &[u32], i: usize) -> ArcIds
         ensures { λ r. ⌜ r ≡ arcIds self (now (ids .entry)) i ⌝ }
     {
-        let place = look_place(self, ShapeKind::Arc, ids.len(), i);
-        match place {
+        match look_place(self, ShapeKind::Arc, ids.len(), i) {
             Place::Not(r) => ArcIds::Refused(r),
             Place::At(_) => ArcIds::Found(arc_vars(
                 ids,
@@ -155,8 +128,7 @@ impl Layout {
     pub fn arc_slot_ids(self, ids: &[u32], i: usize) -> ArcIds
         ensures { λ r. ⌜ r ≡ arcSlotIds self (now (ids .entry)) i ⌝ }
     {
-        let place = look_place(self, ShapeKind::Arc, ids.len(), i);
-        match place {
+        match look_place(self, ShapeKind::Arc, ids.len(), i) {
             Place::Not(r) => ArcIds::Refused(r),
             Place::At(at) => ArcIds::Found(arc_vars(ids, at)),
         }
@@ -166,8 +138,7 @@ impl Layout {
     pub fn point(self, values: &[f64], i: usize) -> PointRead
         ensures { λ r. ⌜ r ≡ pointRead self (now (values .entry)) i ⌝ }
     {
-        let place = look_place(self, ShapeKind::Point, values.len(), i);
-        match place {
+        match look_place(self, ShapeKind::Point, values.len(), i) {
             Place::Not(r) => PointRead::Refused(r),
             Place::At(at) => PointRead::Found(point_at(values, at)),
         }
@@ -177,8 +148,7 @@ impl Layout {
     pub fn circle(self, values: &[f64], i: usize) -> CircleRead
         ensures { λ r. ⌜ r ≡ circleRead self (now (values .entry)) i ⌝ }
     {
-        let place = look_place(self, ShapeKind::Circle, values.len(), i);
-        match place {
+        match look_place(self, ShapeKind::Circle, values.len(), i) {
             Place::Not(r) => CircleRead::Refused(r),
             Place::At(at) => CircleRead::Found(circle_at(values, at)),
         }
@@ -188,8 +158,7 @@ impl Layout {
     pub fn arc(self, values: &[f64], i: usize) -> ArcRead
         ensures { λ r. ⌜ r ≡ arcRead self (now (values .entry)) i ⌝ }
     {
-        let place = look_place(self, ShapeKind::Arc, values.len(), i);
-        match place {
+        match look_place(self, ShapeKind::Arc, values.len(), i) {
             Place::Not(r) => ArcRead::Refused(r),
             Place::At(at) => ArcRead::Found(arc_at(values, at)),
         }

@@ -22,13 +22,9 @@ drop-set l j a h =
 
 -- what is left of zeros
 drop-zeros : (n k : ℕ) → k ≤ n → drop k (zeros n) ≡ zeros (n - k)
-drop-zeros n zero h =
-    let e : n - 0 ≡ n = omega arith in
-    rw e
+drop-zeros n zero h = let e : n - 0 ≡ n = omega arith in rw e
 drop-zeros zero (suc k) h = absurd (lt-irrefl 0 (omega arith))
-drop-zeros (suc n) (suc k) h =
-    let e : suc n - suc k ≡ n - k = omega arith in
-    rw e (drop-zeros n k (omega arith))
+drop-zeros (suc n) (suc k) h = let e : suc n - suc k ≡ n - k = omega arith in rw e (drop-zeros n k (omega arith))
 
 -- ---- digits
 

@@ -26,9 +26,7 @@ next-full size n len h = rw (lt-leb (n + len) size h)
 
 -- a place is told only where there was room
 never-full : {m : ℕ} → At m ≡ Full → ⊥
-never-full e =
-    let z : _≡_ {A = ℕ} 0 1 = cc in
-    omega arith
+never-full e = let z : _≡_ {A = ℕ} 0 1 = cc in omega arith
 
 record Moved (size n len m : ℕ) : Type 0 where
   is : m ≡ n + len

@@ -18,9 +18,6 @@ use Rattle.root.proofs.Scale.{scaling-same, finite-root, root-near, roo
 use Rattle.root.proofs.Sizes.{size-same, size-made, has-digits}
 
 -- ---- a finite number above zero
-parity : (g : ℕ) → (places g ≡ 52) ⊎ (places g ≡ 53)
-parity g = elim (ℕ-discrete (g % 2) 0) [ yes e ↦ inl (omega arith) | no f ↦ inr (omega arith) ]
-
 scaled-root : (b m g : ℕ) → g < 2100 → Scaling (sizeOf b * 2 ^ 52) m g → RootOf b (scaledRoot m g)
 unfolding scaledRoot
 scaled-root b m g h k =
@@ -36,7 +33,7 @@ scaled-root b m g h k =
       x-is = k .value;
       m-least = k .least;
       m-most = omega arith;
-      s-is = parity g;
+      s-is = elim (ℕ-discrete (g % 2) 0) [ yes e ↦ inl (omega arith) | no f ↦ inr (omega arith) ];
       even = omega arith;
       root-is = rw e (size-made ((g + 1022 - places g) / 2) n (range .0) (range .1));
       finite = omega arith;

@@ -7,20 +7,15 @@ use Rattle.decimal.proofs.decimal.Statement.{statement}
 use Rattle.decimal.proofs.decimal.Tie as tie
 
 float-to-bits-t7 : tie.Need-float-to-bits-t7
-float-to-bits-t7 c =
-    let a = c .before .before .before .args in
-    rw (c .decimal-f64 .ensures .rounded) (value-number (a .m) (a .scale) (a .negative))
+float-to-bits-t7 c = rw (c .decimal-f64 .ensures .rounded) (value-number _ _ _)
 
 returns : tie.Need-returns
 returns c =
     let a = c .before .before .before .args in
-    let is = sym (c .before .before .within .ensures) ∙ c .before .if1 .taken in
-    rw (inside (a .m) (a .scale) (a .negative) is, c .decimal-f64 .ensures .rounded)
+    rw (inside (a .m) (a .scale) (a .negative) (sym (c .before .before .within .ensures) ∙ c .before .if1 .taken), c .decimal-f64 .ensures .rounded)
 
 returns-2 : tie.Need-returns-2
-returns-2 c =
-    let a = c .before .before .args in
-    sym (outside (a .m) (a .scale) (a .negative) (sym (c .before .within .ensures) ∙ c .if1 .left))
+returns-2 c = sym (outside _ _ _ (sym (c .before .within .ensures) ∙ c .if1 .left))
 
 pub decimal-spec : {M : Type 1} → statement M
 decimal-spec =

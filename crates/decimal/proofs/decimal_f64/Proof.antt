@@ -40,15 +40,10 @@ plain c =
     (c .match .came)
 
 returns : tie.Need-returns
-returns c =
-    let s = c .before .before .before in
-    made (s .args .m) (s .args .scale) (s .args .negative) (neg (c .before .match .v)) (s .pre)
-    (rw (c .if1 .taken) (ap neg (plain (c .before)) ∙ sym (operated-sign (s .args .m) (s .args .scale) true)))
+returns c = made _ _ _ _ (c .before .before .before .pre) (rw (c .if1 .taken) (ap neg (plain (c .before)) ∙ sym (operated-sign _ _ true)))
 
 returns-2 : tie.Need-returns-2
-returns-2 c =
-    let s = c .before .before .before in
-    made (s .args .m) (s .args .scale) (s .args .negative) (c .before .match .v) (s .pre) (rw (c .if1 .left) (plain (c .before)))
+returns-2 c = made _ _ _ _ (c .before .before .before .pre) (rw (c .if1 .left) (plain (c .before)))
 
 pub decimal-f64-spec : {M : Type 1} → statement M
 decimal-f64-spec = tie.close (tie.spec int-to-float-x (λ c. search needs) ten-to-requires (λ c. search needs) ten-to-requires-2 returns returns-2)

@@ -3,8 +3,5 @@ use borrow.Author.Needs.{needs}
 use Rattle.decimal.proofs.within.Statement.{statement}
 use Rattle.decimal.proofs.within.Tie as tie
 
-returns : tie.Need-returns
-returns c = rw (c .power-of .ensures)
-
 pub within-spec : {M : Type 1} → statement M
-within-spec = tie.close (tie.spec (λ c κs. search needs) returns)
+within-spec = tie.close (tie.spec (λ c κs. search needs) (λ c. rw (c .power-of .ensures)))

@@ -1,16 +1,16 @@
 -- `drawing::check_by` meets its contract: behind 30 the check is that of the faults that are left. The measure is how many are left.
 -- Assumes nothing.
 use borrow.Author.Needs.{needs}
-use mathlib.Core.Path.{_≡_, ap, _∙_}
+use mathlib.Core.Path.{_≡_, _∙_}
 use Prim.Native.Nat.{_-_, _≤_}
 use native.Mathlib.Omega.{arith}
 use lib.ListN.{length, drop}
 use Rattle.refusal.specs.First.{first}
 use Rattle.record.specs.Decode.{countOf}
-use Rattle.index.specs.Labels.{drawn, lowestOr}
+use Rattle.index.specs.Labels.{drawn}
 use Rattle.drawing.specs.Faults.{behind30}
 use Rattle.drawing.specs.Check.{test, checkOf}
-use Rattle.drawing.proofs.Order.{faultAt, stops, goes-on, ends, test-at, check-is, told-behind, told-none}
+use Rattle.drawing.proofs.Order.{stops, goes-on, ends, check-is, told-behind, told-none}
 use Rattle.drawing.proofs.check_by.Statement.{statement}
 use Rattle.drawing.proofs.check_by.Tie as tie
 
@@ -24,39 +24,24 @@ abbrev μ-loop : tie.MeasureT-loop
 loop-holds : tie.Need-loop-holds Inv-loop μ-loop
 loop-holds c =
     let s = c .before .before .before .before in
-    (omega arith, check-is (s .args .text .now) (s .args .records .now) (s .pre .0))
-
--- what was looked for by the number of fault k
-found : (c : tie.After-lowest-bad Inv-loop μ-loop) → let a = c .before .before .before .before .before .before .before .args in
-    c .lowest-bad .result ≡ lowestOr (countOf (a .records .now)) (test (drawn (a .text .now) (a .records .now)) (faultAt (c .before .before .loop .k)))
-found c =
-    let a = c .before .before .before .before .before .before .before .args in
-    c .lowest-bad .ensures
-    ∙ ap (lowestOr (countOf (a .records .now))) (test-at (drawn (a .text .now) (a .records .now)) (c .before .before .loop .k) (omega (arith, c .before .loop-test .taken)))
+    (omega arith, check-is _ _ (s .pre .0))
 
 returns : tie.Need-returns Inv-loop μ-loop
 returns c =
     let s = c .before .before .before .before .before .before .before .before in
-    let a = s .args in
     let l = c .before .before .before .loop in
-    told-behind (a .text .now) (a .records .now) (s .pre .0) (l .k) (c .before .lowest-bad .result) (omega arith)
-    (l .inv .1 ∙ stops (test (drawn (a .text .now) (a .records .now))) (countOf (a .records .now)) (l .k) (omega arith) (c .before .lowest-bad .result) (found (c .before)) (omega arith))
+    told-behind _ _ (s .pre .0) (l .k) _ (omega arith) (l .inv .1 ∙ stops _ _ (l .k) (omega arith) _ (c .before .lowest-bad .ensures) (omega arith))
 
 loop-again : tie.Need-loop-again Inv-loop μ-loop
 loop-again c =
-    let a = c .before .before .before .before .before .before .before .before .args in
-    let l = c .before .before .before .loop in (
-      omega arith,
-      l .inv .1 ∙ goes-on (test (drawn (a .text .now) (a .records .now))) (countOf (a .records .now)) (l .k) (omega arith) (c .before .lowest-bad .result) (found (c .before)) (omega arith),
-    )
+    let l = c .before .before .before .loop in
+    (omega arith, l .inv .1 ∙ goes-on _ _ (l .k) (omega arith) _ (c .before .lowest-bad .ensures) (omega arith))
 
 returns-2 : tie.Need-returns-2 Inv-loop μ-loop
 returns-2 c =
     let s = c .before .before .before .before .before .before .before .before .before .before in
-    let a = s .args in
     let l = c .before .before .before .before .before .loop in
-    told-none (a .text .now) (a .records .now) (s .pre .0) _ _ _ _
-    (l .inv .1 ∙ ends (test (drawn (a .text .now) (a .records .now))) (countOf (a .records .now)) (l .k) (omega arith))
+    told-none _ _ (s .pre .0) _ _ _ _ (l .inv .1 ∙ ends _ _ (l .k) (omega arith))
     (c .before .before .before .count .ensures) (c .before .before .count2 .ensures) (c .before .count3 .ensures) (c .count4 .ensures)
 
 pub check-by-spec : {M : Type 1} → statement M

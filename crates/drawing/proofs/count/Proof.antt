@@ -1,13 +1,14 @@
 -- `drawing::count` meets its contract: the loop's invariant is the count of the records passed. The measure is what is left of the
 -- records. Assumes nothing.
 use borrow.Author.Needs.{needs}
-use mathlib.Core.Path.{_≡_, refl, ap, _∙_}
+use mathlib.Core.Path.{_≡_, refl}
 use Prim.Native.Nat.{_-_, _≤_}
 use native.Mathlib.Omega.{arith}
 use Rattle.record.specs.Decode.{countOf, decodeAt}
 use Rattle.index.specs.Labels.{within}
 use Rattle.drawing.specs.Check.{countBelow}
-use Rattle.drawing.proofs.Laws.{count-more, one-small}
+use Rattle.ground.proofs.Lists.{either-le}
+use Rattle.drawing.proofs.Laws.{count-more}
 use Rattle.drawing.proofs.count.Statement.{statement}
 use Rattle.drawing.proofs.count.Tie as tie
 
@@ -17,31 +18,24 @@ Inv-loop records low high n m₀ i₀ m i = (n ≡ countOf records) × (i ≤ n)
 abbrev μ-loop : tie.MeasureT-loop
 μ-loop records low high n m₀ i₀ m i = n - i
 
-loop-holds : tie.Need-loop-holds Inv-loop μ-loop
-unfolding countBelow
-loop-holds c = (refl, omega arith, omega arith, refl)
-
 small : (c : tie.After-one-if Inv-loop μ-loop) → c .one-if .result ≤ 1
 small c =
     let a = c .before .before .before .before .before .args in
-    rw (c .one-if .ensures) (one-small (within (a .low) (a .high) (c .before .kind-at .result)))
+    rw (c .one-if .ensures) (either-le (within (a .low) (a .high) (c .before .kind-at .result)) 1 0 1 (omega arith) (omega arith))
 
 loop-again : tie.Need-loop-again Inv-loop μ-loop
 loop-again c =
-    let a = c .before .before .before .before .before .args in
-    let l = c .before .before .before .loop in (
-      refl,
-      omega arith,
-      omega (arith, small c),
-      count-more (λ k. decodeAt (a .records .now) k .kind) (a .low) (a .high) (l .i) (l .m) (c .before .kind-at .result) (c .one-if .result) (l .inv .3) (c .before .kind-at .ensures) (c .one-if .ensures),
-    )
+    let l = c .before .before .before .loop in
+    (refl, omega arith, omega (arith, small c), count-more _ _ _ _ _ _ _ (l .inv .3) (c .before .kind-at .ensures) (c .one-if .ensures))
 
 returns : tie.Need-returns Inv-loop μ-loop
 returns c =
-    let a = c .before .before .before .args in
     let l = c .before .loop in
-    let e : l .i ≡ countOf (a .records .now) = omega arith in
-    l .inv .3 ∙ ap (countBelow (λ k. decodeAt (a .records .now) k .kind) (a .low) (a .high)) e
+    let e : l .i ≡ countOf (c .before .before .before .args .records .now) = omega arith in
+    rw e at (l .inv .3)
 
 pub count-spec : {M : Type 1} → statement M
-count-spec = tie.close (tie.spec Inv-loop μ-loop loop-holds (λ c κs. search needs) (λ c κs. search needs) (λ c. omega (arith, small c)) (λ c. omega arith) (λ c. omega arith) loop-again returns)
+unfolding countBelow
+count-spec =
+    tie.close (tie.spec Inv-loop μ-loop (λ c. (refl, omega arith, omega arith, refl)) (λ c κs. search needs) (λ c κs. search needs) (λ c. omega (arith, small c))
+    (λ c. omega arith) (λ c. omega arith) loop-again returns)

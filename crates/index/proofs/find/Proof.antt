@@ -4,8 +4,5 @@ use mathlib.Core.List.{append-nil}
 use Rattle.index.proofs.find.Statement.{statement}
 use Rattle.index.proofs.find.Tie as tie
 
-returns : tie.Need-returns
-returns c = rw append-nil at (c .find-two .ensures)
-
 pub find-spec : {M : Type 1} → statement M
-find-spec = tie.close (tie.spec (λ c. search needs) (λ c κs. search needs) returns)
+find-spec = tie.close (tie.spec (λ c. search needs) (λ c κs. search needs) (λ c. rw append-nil at (c .find-two .ensures)))

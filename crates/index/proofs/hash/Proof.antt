@@ -15,9 +15,6 @@ Inv-loop start l h₀ i₀ h i = (hashFrom start l ≡ hashFrom h (drop i l)) ×
 abbrev μ-loop : tie.MeasureT-loop
 μ-loop start l h₀ i₀ h i = length l - i
 
-loop-holds : tie.Need-loop-holds Inv-loop μ-loop
-loop-holds c = (refl, omega arith)
-
 cast-h : tie.Need-cast-h Inv-loop μ-loop
 cast-h c = omega (arith, c .shared-slice-known .given (c .before .before .loop .i))
 
@@ -27,14 +24,14 @@ add-h c = omega (arith, c .shared-slice-known .given (c .before .before .loop .i
 loop-again : tie.Need-loop-again Inv-loop μ-loop
 loop-again c =
     let l = c .before .before .loop in
-    let a = c .before .before .before .args in
-    (hash-more (a .start) (a .l .now) (l .h) (l .i) (l .inv .0) (search needs), omega arith)
+    (hash-more _ _ _ (l .i) (l .inv .0) (search needs), omega arith)
 
 returns : tie.Need-returns Inv-loop μ-loop
 returns c =
     let l = c .before .loop in
-    let a = c .before .before .args in
-    (hash-end (a .start) (a .l .now) (l .h) (l .i) (l .inv .0) (c .loop-test .left), omega arith)
+    (hash-end _ _ _ (l .i) (l .inv .0) (c .loop-test .left), omega arith)
 
 pub hash-spec : {M : Type 1} → statement M
-hash-spec = tie.close (tie.spec Inv-loop μ-loop loop-holds (λ c. search needs) (λ c. search needs) cast-h add-h (λ c. search needs) (λ c. search needs) loop-again returns)
+hash-spec =
+    tie.close (tie.spec Inv-loop μ-loop (λ c. (refl, omega arith)) (λ c. search needs) (λ c. search needs) cast-h add-h (λ c. search needs) (λ c. search needs)
+    loop-again returns)

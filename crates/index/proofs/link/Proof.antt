@@ -3,7 +3,7 @@ use borrow.Author.Needs.{needs}
 use mathlib.Core.Path.{_≡_, sym}
 use Prim.Native.Nat.{_+_, _-_, _≤_}
 use native.Mathlib.Omega.{arith}
-use lib.ListN.{length, getD, length-set}
+use lib.ListN.{length, length-set}
 use Rattle.index.specs.Labels.{drawn}
 use Rattle.index.specs.Steps.{Links}
 use Rattle.index.proofs.Drawn.{drawn-length, drawn-kind, drawn-label}
@@ -13,41 +13,30 @@ use Rattle.index.proofs.link.Tie as tie
 
 abbrev Inv-loop : tie.InvT-loop
 Inv-loop text records low high chains₀ n i₀ chains i =
-    (n ≡ length (drawn text records)) × (i ≤ n) × Links (drawn text records) low high i chains₀ chains
+    (n ≡ length (drawn text records)) × (i ≤ n) × Links (drawn text records) low high i i chains₀ chains
 
 abbrev μ-loop : tie.MeasureT-loop
 μ-loop text records low high chains₀ n i₀ chains i = i
 
 loop-holds : tie.Need-loop-holds Inv-loop μ-loop
 loop-holds c =
-    let s = c .before .before .before in
-    (sym (drawn-length (s .args .text .now) (s .args .records .now)), omega arith, s .pre)
+    (sym (drawn-length _ _), omega arith, c .before .before .before .pre)
 
 loop-again : tie.Need-loop-again Inv-loop μ-loop
 loop-again c =
-    let a = c .before .before .before .before .before .before .before .before .before .before .args in
-    let l = c .before .before .before .before .before .before .loop in
-    let j = l .i - 1 in
-    let e : l .i ≡ j + 1 = omega arith in (
-      l .inv .0,
-      omega arith,
-      links-in (drawn (a .text .now) (a .records .now)) (a .low) (a .high) (a .chains .now) j (l .chains) (omega arith) (rw e at (l .inv .2)) (c .before .hash .result)
-          (rw (drawn-kind (a .text .now) (a .records .now) j, ← c .before .before .before .before .kind-of .ensures) (c .before .before .before .if1 .taken))
-          (rw (drawn-label (a .text .now) (a .records .now) j 0, ← c .before .before .label-of .ensures .is) (c .before .hash .ensures .0))
-          (c .before .hash .ensures .1),
-    )
+    let b = c .before .before .before in
+    let l = b .before .before .before .loop in
+    let e : l .i ≡ l .i - 1 + 1 = omega arith in
+    let h = c .before .hash .ensures in
+    let links = links-in _ _ _ _ _ (omega arith) _ _ (rw e at (l .inv .2)) (rw (drawn-kind, ← b .before .kind-of .ensures) (b .if1 .taken))
+    (rw (drawn-label, ← c .before .before .label-of .ensures .is) (h .0)) (h .1) in
+    (l .inv .0, omega arith, links)
 
 loop-again-2 : tie.Need-loop-again-2 Inv-loop μ-loop
 loop-again-2 c =
-    let a = c .before .before .before .before .before .before .before .args in
     let l = c .before .before .before .loop in
-    let j = l .i - 1 in
-    let e : l .i ≡ j + 1 = omega arith in (
-      l .inv .0,
-      omega arith,
-      links-out (drawn (a .text .now) (a .records .now)) (a .low) (a .high) (a .chains .now) j (l .chains) (omega arith) (rw e at (l .inv .2)) _ (l .inv .0)
-          (rw (drawn-kind (a .text .now) (a .records .now) j, ← c .before .kind-of .ensures) (c .if1 .left)),
-    )
+    let e : l .i ≡ l .i - 1 + 1 = omega arith in
+    (l .inv .0, omega arith, links-out _ _ _ _ _ (omega arith) _ _ (rw e at (l .inv .2)) (l .inv .0) (rw (drawn-kind, ← c .before .kind-of .ensures) (c .if1 .left)))
 
 returns : tie.Need-returns Inv-loop μ-loop
 returns c =
@@ -59,8 +48,7 @@ returns c =
 head-written : tie.Need-slice-write-chains-2 Inv-loop μ-loop
 head-written c =
     let l = c .before .before .before .before .before .before .loop in
-    let h = c .before .hash in
-    omega (arith, h .ensures .1, l .inv .2 .fits, length-set (l .chains) (1024 + (l .i - 1)) (getD (l .chains) (h .result) 0))
+    simp length-set (omega (arith, c .before .hash .ensures .1, l .inv .2 .fits))
 
 pub link-spec : {M : Type 1} → statement M
 link-spec =

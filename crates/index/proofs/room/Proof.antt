@@ -4,11 +4,5 @@ use borrow.Author.Tests.{lt-leb, le-leb}
 use Rattle.index.proofs.room.Statement.{statement}
 use Rattle.index.proofs.room.Tie as tie
 
-returns : tie.Need-returns
-returns c = rw (lt-leb _ _ (c .if1 .taken))
-
-returns-2 : tie.Need-returns-2
-returns-2 c = rw (le-leb _ _ (c .if1 .left))
-
 pub room-spec : {M : Type 1} → statement M
-room-spec = tie.close (tie.spec returns (λ c. search needs) returns-2)
+room-spec = tie.close (tie.spec (λ c. rw (lt-leb _ _ (c .if1 .taken))) (λ c. search needs) (λ c. rw (le-leb _ _ (c .if1 .left))))

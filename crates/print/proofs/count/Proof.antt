@@ -11,17 +11,7 @@ Inv-loop n rest₀ k₀ rest k = Counting n rest k
 abbrev μ-loop : tie.MeasureT-loop
 μ-loop n rest₀ k₀ rest k = rest
 
-loop-holds : tie.Need-loop-holds Inv-loop μ-loop
-loop-holds c = count-start _ (omega arith)
-
-add-k : tie.Need-add-k Inv-loop μ-loop
-add-k c = omega (arith, c .before .loop .inv .room)
-
-loop-again : tie.Need-loop-again Inv-loop μ-loop
-loop-again c = count-turn _ _ _ (c .before .loop .inv) (omega arith)
-
-returns : tie.Need-returns Inv-loop μ-loop
-returns c = count-end _ _ _ (c .before .loop .inv) (omega arith)
-
 pub count-spec : {M : Type 1} → statement M
-count-spec = tie.close (tie.spec Inv-loop μ-loop loop-holds add-k (λ c. omega arith) loop-again returns)
+count-spec =
+    tie.close (tie.spec Inv-loop μ-loop (λ c. count-start _ (omega arith)) (λ c. omega (arith, c .before .loop .inv .room)) (λ c. omega arith)
+    (λ c. count-turn _ _ _ (c .before .loop .inv) (omega arith)) (λ c. count-end _ _ _ (c .before .loop .inv) (omega arith)))

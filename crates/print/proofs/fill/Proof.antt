@@ -20,9 +20,7 @@ abbrev μ-loop : tie.MeasureT-loop
 μ-loop place₀ n base rest₀ i₀ place rest i = i
 
 loop-holds : tie.Need-loop-holds Inv-loop μ-loop
-loop-holds c =
-    let a = c .before .args in
-    (rw (drop-length (a .place .now), append-nil (lastDigits (a .base) (length (a .place .now)) (a .n))), omega arith, refl)
+loop-holds c = (rw (drop-length, append-nil), omega arith, refl)
 
 sign-requires : tie.Need-sign-requires Inv-loop μ-loop
 sign-requires c κs = omega (arith, mod-lt (c .before .loop .rest) {m = c .before .before .before .args .base} (omega arith))
@@ -30,11 +28,7 @@ sign-requires c κs = omega (arith, mod-lt (c .before .loop .rest) {m = c .befor
 loop-again : tie.Need-loop-again Inv-loop μ-loop
 loop-again c =
     let l = c .before .before .loop in
-    let a = c .before .before .before .before .args in
-    (rw (c .sign .ensures) (l .inv .0 ∙ digits-turn (a .base) (l .rest) (l .i) (l .place) (omega arith) (omega arith)), omega arith, simp length-set (l .inv .2))
-
-same-length : tie.Need-same-length Inv-loop μ-loop
-same-length c = c .before .loop .inv .2
+    (rw (c .sign .ensures) (l .inv .0 ∙ digits-turn _ _ (l .i) (l .place) (omega arith) (omega arith)), omega arith, simp length-set (l .inv .2))
 
 returns : tie.Need-returns Inv-loop μ-loop
 unfolding lastDigits
@@ -44,4 +38,6 @@ returns c =
     sym (rw e at (l .inv .0))
 
 pub fill-spec : {M : Type 1} → statement M
-fill-spec = tie.close (tie.spec Inv-loop μ-loop loop-holds (λ c. omega arith) (λ c. omega arith) sign-requires (λ c. omega arith) (λ c. omega arith) (λ c. omega arith) loop-again same-length returns)
+fill-spec =
+    tie.close (tie.spec Inv-loop μ-loop loop-holds (λ c. omega arith) (λ c. omega arith) sign-requires (λ c. omega arith) (λ c. omega arith) (λ c. omega arith)
+    loop-again (λ c. c .before .loop .inv .2) returns)

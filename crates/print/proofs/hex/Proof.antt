@@ -4,9 +4,6 @@ use Rattle.print.specs.Print.{hexOf}
 use Rattle.print.proofs.hex.Statement.{statement}
 use Rattle.print.proofs.hex.Tie as tie
 
-returns : tie.Need-returns
-unfolding hexOf
-returns c = c .before .fill .ensures
-
 pub hex-spec : {M : Type 1} → statement M
-hex-spec = tie.close (tie.spec (λ c. search needs) (λ c κs. search needs) returns)
+unfolding hexOf
+hex-spec = tie.close (tie.spec (λ c. search needs) (λ c κs. search needs) (λ c. c .before .fill .ensures))

@@ -18,31 +18,16 @@ left t m (suc g) p l e = omega arith
 
 move : (m g : ℕ) → 0 < g → m * 2 * 2 ^ (g - 1) ≡ m * 2 ^ g
 move m zero p = omega arith
-move m (suc g) p =
-    let e : suc g - 1 ≡ g = omega arith in
-    rw (e, pow-succ', mul-assoc)
+move m (suc g) p = let e : suc g - 1 ≡ g = omega arith in rw (e, pow-succ', mul-assoc)
 
 some : (c : tie.In-loop Inv-loop μ-loop) → 0 < c .before .loop .g
-some c = left (c .before .before .args .t) (c .before .loop .m) (c .before .loop .g) (omega arith) (omega arith) (c .before .loop .inv .3)
-
-loop-holds : tie.Need-loop-holds Inv-loop μ-loop
-loop-holds c = omega arith
-
-mul-m : tie.Need-mul-m Inv-loop μ-loop
-mul-m c = omega arith
-
-sub-g : tie.Need-sub-g Inv-loop μ-loop
-sub-g c = some c
-
-loop-less : tie.Need-loop-less Inv-loop μ-loop
-loop-less c = omega (arith, some c)
+some c = left (c .before .before .args .t) _ _ (omega arith) (omega arith) (c .before .loop .inv .3)
 
 loop-again : tie.Need-loop-again Inv-loop μ-loop
-loop-again c =
-    (omega arith, omega arith, omega arith, c .before .loop .inv .3 ∙ sym (move (c .before .loop .m) (c .before .loop .g) (some c)))
+loop-again c = (omega arith, omega arith, omega arith, c .before .loop .inv .3 ∙ sym (move (c .before .loop .m) (c .before .loop .g) (some c)))
 
 returns : tie.Need-returns Inv-loop μ-loop
 returns c = (omega arith, record { least = omega arith; most = omega arith; value = c .before .loop .inv .3 })
 
 pub normal-spec : {M : Type 1} → statement M
-normal-spec = tie.close (tie.spec Inv-loop μ-loop loop-holds mul-m sub-g loop-less loop-again returns)
+normal-spec = tie.close (tie.spec Inv-loop μ-loop (λ c. omega arith) (λ c. omega arith) (λ c. some c) (λ c. omega (arith, some c)) loop-again returns)

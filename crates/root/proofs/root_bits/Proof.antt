@@ -9,14 +9,10 @@ use Rattle.root.proofs.root_bits.Statement.{statement}
 use Rattle.root.proofs.root_bits.Tie as tie
 
 returns : tie.Need-returns
-returns c =
-    let b = c .before .args .b in
-    rooted b b (omega arith) (sym (root-kept b (c .if1 .taken)))
+returns c = rooted _ _ (omega arith) (sym (root-kept _ (c .if1 .taken)))
 
 returns-2 : tie.Need-returns-2
-returns-2 c =
-    let b = c .before .before .args .b in
-    rooted b _ (omega arith) (sym (root-none b (c .before .if1 .left) (c .if2 .taken)))
+returns-2 c = rooted _ _ (omega arith) (sym (root-none _ (c .before .if1 .left) (c .if2 .taken)))
 
 normal-requires : tie.Need-normal-requires
 normal-requires c κs = omega (arith, not-kept (c .before .before .before .args .b) (c .before .before .if1 .left))

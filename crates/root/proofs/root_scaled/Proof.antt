@@ -17,22 +17,8 @@ rooted c = c .root-core .ensures ∙ ap nearestRoot (twice (c .before) .value)
 range : (c : tie.After-root-core) → (2 ^ 52 ≤ c .root-core .result) × (c .root-core .result < 2 ^ 53)
 range c = rw (rooted c) (root-range (c .before .args .m) (c .before .args .g) (omega arith) (omega arith))
 
-mul-root-core : tie.Need-mul-root-core
-mul-root-core c = omega (arith, twice c)
-
-root-core-requires : tie.Need-root-core-requires
-root-core-requires c κs = omega (arith, twice c)
-
-sub-result : tie.Need-sub-result
-sub-result c = omega (arith, range c)
-
-add-result-2 : tie.Need-add-result-2
-add-result-2 c = omega (arith, range c)
-
-returns : tie.Need-returns
-unfolding scaledRoot
-returns c = rw (rooted c)
-
 pub root-scaled-spec : {M : Type 1} → statement M
+unfolding scaledRoot
 root-scaled-spec =
-    tie.close (tie.spec (λ c. search needs) mul-root-core root-core-requires (λ c. search needs) (λ c. search needs) sub-result add-result-2 returns)
+    tie.close (tie.spec (λ c. search needs) (λ c. omega (arith, twice c)) (λ c κs. omega (arith, twice c)) (λ c. search needs) (λ c. search needs)
+    (λ c. omega (arith, range c)) (λ c. omega (arith, range c)) (λ c. rw (rooted c)))

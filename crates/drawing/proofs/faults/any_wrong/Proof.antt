@@ -23,28 +23,25 @@ abbrev μ-loop : tie.MeasureT-loop
 loop-holds : tie.Need-loop-holds Inv-loop μ-loop
 loop-holds c =
     let s = c .before .before .before .before in
-    (labels-read (s .args .kinds .now) (s .pre .0) (s .args .kind) _ (c .look .ensures), omega arith, below-none _)
+    (labels-read _ (s .pre .0) _ _ (c .look .ensures), omega arith, below-none _)
 
 code-at-requires : tie.Need-code-at-requires Inv-loop μ-loop
 code-at-requires c κs =
     let s = c .before .before .before .before .before .before .before in
-    let l = c .before .before .loop in
-    (s .pre .0, omega (arith, s .pre .2), omega (arith, four-labels (s .args .kind), l .inv .0))
+    (s .pre .0, omega (arith, s .pre .2), omega (arith, four-labels (s .args .kind), c .before .before .loop .inv .0))
 
 -- what was read of label q
 read : (c : tie.After-meets Inv-loop μ-loop) → let a = c .before .before .before .before .before .before .before .before .before .args in
     not (c .meets .result) ≡ wrongPlace (drawn (a .text .now) (a .records .now)) (a .i) (c .before .before .before .before .loop .q)
 read c =
     let s = c .before .before .before .before .before .before .before .before .before in
-    let a = s .args in
-    let l = c .before .before .before .before .loop in
-    wrong-place-is (a .text .now) (a .records .now) (a .i) (a .kind) (s .pre .3) (l .q) _ (c .before .before .label-at .ensures .is) _ _ (c .before .code-at .ensures) (c .meets .ensures)
+    wrong-place-is _ _ _ _ (s .pre .3) _ _ (c .before .before .label-at .ensures .is) _ _ (c .before .code-at .ensures) (c .meets .ensures)
 
 returns : tie.Need-returns Inv-loop μ-loop
 returns c =
     let a = c .before .before .before .before .before .before .before .before .before .before .args in
     let l = c .before .before .before .before .before .loop in
-    any-here (wrongPlace (drawn (a .text .now) (a .records .now)) (a .i)) (kindAt (a .kind) .labels) (l .q) (omega (arith, l .inv .0)) (sym (read (c .before)) ∙ c .if1 .taken)
+    any-here _ (kindAt (a .kind) .labels) (l .q) (omega (arith, l .inv .0)) (sym (read (c .before)) ∙ c .if1 .taken)
 
 loop-again : tie.Need-loop-again Inv-loop μ-loop
 loop-again c =
@@ -55,7 +52,7 @@ returns-2 : tie.Need-returns-2 Inv-loop μ-loop
 returns-2 c =
     let a = c .before .before .before .before .before .before .args in
     let l = c .before .loop in
-    any-none (wrongPlace (drawn (a .text .now) (a .records .now)) (a .i)) (kindAt (a .kind) .labels) (λ k h. l .inv .2 k (omega (arith, l .inv .0)))
+    any-none _ (kindAt (a .kind) .labels) (λ k h. l .inv .2 k (omega (arith, l .inv .0)))
 
 pub any-wrong-spec : {M : Type 1} → statement M
 any-wrong-spec =

@@ -19,14 +19,10 @@ Inv-loop kinds text records chains guess-chains number n i₀ i = (n ≡ countOf
 abbrev μ-loop : tie.MeasureT-loop
 μ-loop kinds text records chains guess-chains number n i₀ i = n - i
 
-loop-holds : tie.Need-loop-holds Inv-loop μ-loop
-loop-holds c = (refl, omega arith, below-none _)
-
 returns : tie.Need-returns Inv-loop μ-loop
 returns c =
-    let a = c .before .before .before .before .before .before .before .before .args in
     let l = c .before .before .before .loop in
-    lowest-here (countOf (a .records .now)) (testNo (drawn (a .text .now) (a .records .now)) (a .number)) (l .i) (omega arith) (sym (c .before .bad .ensures) ∙ c .if1 .taken) (l .inv .2)
+    lowest-here _ _ (l .i) (omega arith) (sym (c .before .bad .ensures) ∙ c .if1 .taken) (l .inv .2)
 
 loop-again : tie.Need-loop-again Inv-loop μ-loop
 loop-again c =
@@ -34,10 +30,9 @@ loop-again c =
     (l .inv .0, omega arith, below-more _ (l .i) (l .inv .2) (sym (c .before .bad .ensures) ∙ c .if1 .left))
 
 returns-2 : tie.Need-returns-2 Inv-loop μ-loop
-returns-2 c =
-    let a = c .before .before .before .before .before .before .args in
-    let l = c .before .loop in
-    lowest-nowhere (countOf (a .records .now)) (testNo (drawn (a .text .now) (a .records .now)) (a .number)) (λ j h. l .inv .2 j (omega arith))
+returns-2 c = lowest-nowhere _ _ (λ j h. c .before .loop .inv .2 j (omega arith))
 
 pub lowest-bad-spec : {M : Type 1} → statement M
-lowest-bad-spec = tie.close (tie.spec Inv-loop μ-loop loop-holds (λ c κs. search needs) returns (λ c. omega arith) (λ c. omega arith) loop-again returns-2)
+lowest-bad-spec =
+    tie.close (tie.spec Inv-loop μ-loop (λ c. (refl, omega arith, below-none _)) (λ c κs. search needs) returns (λ c. omega arith) (λ c. omega arith) loop-again
+    returns-2)

@@ -7,8 +7,7 @@ use Rattle.drawing.proofs.search.guessed.Tie as tie
 returns : tie.Need-returns
 returns c =
     let s = c .before .before .before .before .before .before in
-    let a = s .args in
-    guessed-found (a .text .now) (a .records .now) (a .chains .now) (a .kind) (a .suffix .now) (a .label .now) _ (s .pre .0) (s .pre .1) (s .pre .2) (c .find-two .ensures)
+    guessed-found _ _ _ _ _ _ _ (s .pre .0) (s .pre .1) (s .pre .2) (c .find-two .ensures)
 
 pub guessed-spec : {M : Type 1} → statement M
 guessed-spec = tie.close (tie.spec (λ c κs. search needs) returns)

@@ -4,40 +4,29 @@ use borrow.Author.Tests.{not-true, not-false}
 use mathlib.Core.Path.{sym, _∙_}
 use Prim.Native.Nat.{_-_}
 use native.Mathlib.Omega.{arith}
-use lib.ListN.{length, take}
+use lib.ListN.{length}
 use lib.Seq.{length-take-le}
-use Rattle.index.specs.Labels.{drawn}
 use Rattle.index.proofs.Laws.{rest-of}
 use Rattle.drawing.proofs.Laws.{too-short, ends-else, ends-so}
 use Rattle.drawing.proofs.Read.{named-none, named-found}
 use Rattle.drawing.proofs.search.named.Statement.{statement}
 use Rattle.drawing.proofs.search.named.Tie as tie
 
-returns : tie.Need-returns
-returns c =
-    let a = c .before .before .before .before .before .before .args in
-    named-none (drawn (a .text .now) (a .records .now)) (a .kind) (a .suffix .now) (a .label .now) (too-short (a .label .now) (a .suffix .now) (c .if1 .taken))
-
 returns-2 : tie.Need-returns-2
 returns-2 c =
     let a = c .before .before .before .before .before .before .before .before .before .args in
-    named-none (drawn (a .text .now) (a .records .now)) (a .kind) (a .suffix .now) (a .label .now)
-    (ends-else (a .label .now) (a .suffix .now) (sym (rw (rest-of (a .label .now) (length (a .label .now) - length (a .suffix .now))) at (c .before .same .ensures)) ∙ not-true _ (c .if2 .taken)))
-
-slice-aggregate-find : tie.Need-slice-aggregate-find
-slice-aggregate-find c =
-    let a = c .before .before .before .before .before .before .before .before .before .before .args in
-    sym (length-take-le (length (a .label .now) - length (a .suffix .now)) (a .label .now) (omega arith))
+    named-none _ _ _ _
+    (ends-else _ _ (sym (rw (rest-of (a .label .now) (length (a .label .now) - length (a .suffix .now))) at (c .before .same .ensures)) ∙ not-true _ (c .if2 .taken)))
 
 returns-3 : tie.Need-returns-3
 returns-3 c =
     let s = c .before .before .before .before .before .before .before .before .before .before .before in
     let a = s .args in
-    named-found (a .text .now) (a .records .now) (a .chains .now) (a .kind) (a .suffix .now) (a .label .now) _ (take (length (a .label .now) - length (a .suffix .now)) (a .label .now))
-    (ends-so (a .label .now) (a .suffix .now) (sym (rw (rest-of (a .label .now) (length (a .label .now) - length (a .suffix .now))) at (c .before .before .before .same .ensures)) ∙ not-false _ (c .before .before .if2 .left)))
+    named-found _ _ _ _ _ _ _ _
+    (ends-so _ (a .suffix .now) (sym (rw (rest-of (a .label .now) (length (a .label .now) - length (a .suffix .now))) at (c .before .before .before .same .ensures)) ∙ not-false _ (c .before .before .if2 .left)))
     (s .pre .0) (s .pre .1) (s .pre .2) (c .find .ensures)
 
 pub named-spec : {M : Type 1} → statement M
 named-spec =
-    tie.close (tie.spec returns (λ c. search needs) (λ c. search needs) (λ c. search needs) (λ c. search needs) (λ c κs. search needs) returns-2
-    slice-aggregate-find (λ c κs. search needs) returns-3)
+    tie.close (tie.spec (λ c. named-none _ _ _ _ (too-short _ _ (c .if1 .taken))) (λ c. search needs) (λ c. search needs) (λ c. search needs) (λ c. search needs)
+    (λ c κs. search needs) returns-2 (λ c. sym (length-take-le _ _ (omega arith))) (λ c κs. search needs) returns-3)

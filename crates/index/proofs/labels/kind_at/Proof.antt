@@ -4,8 +4,5 @@ use Rattle.index.proofs.Drawn.{kind-past}
 use Rattle.index.proofs.labels.kind_at.Statement.{statement}
 use Rattle.index.proofs.labels.kind_at.Tie as tie
 
-returns : tie.Need-returns
-returns c = kind-past _ _ (c .if1 .taken)
-
 pub kind-at-spec : {M : Type 1} → statement M
-kind-at-spec = tie.close (tie.spec returns (λ c κs. search needs) (λ c. search needs))
+kind-at-spec = tie.close (tie.spec (λ c. kind-past _ _ (c .if1 .taken)) (λ c κs. search needs) (λ c. search needs))

@@ -4,8 +4,5 @@ use Rattle.index.proofs.Drawn.{kind-here}
 use Rattle.index.proofs.labels.kind_of.Statement.{statement}
 use Rattle.index.proofs.labels.kind_of.Tie as tie
 
-returns : tie.Need-returns
-returns c = kind-here _ _ (search needs)
-
 pub kind-of-spec : {M : Type 1} → statement M
-kind-of-spec = tie.close (tie.spec (λ c. search needs) (λ c. search needs) (λ c. search needs) returns)
+kind-of-spec = tie.close (tie.spec (λ c. search needs) (λ c. search needs) (λ c. search needs) (λ c. kind-here _ _ (search needs)))

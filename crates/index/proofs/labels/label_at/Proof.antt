@@ -7,8 +7,7 @@ use Rattle.index.proofs.labels.label_at.Tie as tie
 
 returns : tie.Need-returns
 returns c =
-    let a = c .before .before .before .before .args in
-    let none = label-none (a .text .now) (a .records .now) (a .i) (a .q) (c .before .if1 .taken) in
+    let none = label-none _ _ _ _ (c .before .if1 .taken) in
     said-as (none .is) (none .starts) (c .part .ensures)
 
 pub label-at-spec : {M : Type 1} → statement M

@@ -20,15 +20,13 @@ cast-count c = omega (arith, c .shared-slice-known4 .given (c .before .before .b
 
 returns : tie.Need-returns
 returns c =
-    let start = c .before .before .before .before .before .before .before .before .before .before .before .before in
-    let a = start .args in
-    let some = label-read (a .text .now) (a .records .now) (a .i) (a .q) (start .pre) (c .before .before .before .before .before .before .before .if1 .taken) in
+    let b = c .before .before .before .before .before .before .before in
+    let some = label-read _ _ _ _ (b .before .before .before .before .before .pre) (b .if1 .taken) in
     said-as (some .is) (some .starts) (rw (c .before .before .before .before .u16-of .ensures, c .before .u16-of2 .ensures) at (c .part .ensures))
 
 returns-2 : tie.Need-returns-2
 returns-2 c =
-    let a = c .before .before .before .before .before .before .args in
-    let none = label-unread (a .text .now) (a .records .now) (a .i) (a .q) (c .before .before .before .before .before .before .pre) (c .before .if1 .left) in
+    let none = label-unread _ _ _ _ (c .before .before .before .before .before .before .pre) (c .before .if1 .left) in
     said-as (none .is) (none .starts) (c .part2 .ensures)
 
 pub label-of-spec : {M : Type 1} → statement M

@@ -31,7 +31,7 @@ returns-2 c =
 returns-3 : tie.Need-returns-3
 returns-3 c =
     let a = c .before .before .args in
-    said-as (part-past (a .text .now) (a .start) (a .len) (omega arith)) (rw (le-ltb (a .start) (length (a .text .now)) (c .before .if1 .left)) refl) from-start
+    said-as (part-past (a .text .now) (a .start) (a .len) (omega arith)) (rw (le-ltb _ _ (c .before .if1 .left)) refl) from-start
 
 pub part-spec : {M : Type 1} → statement M
 part-spec = tie.close (tie.spec (λ c. search needs) (λ c. search needs) (λ c. search needs) (λ c. search needs) (λ c. search needs) (λ c. search needs) (λ c. search needs) (λ c. search needs) (λ c. search needs) returns returns-2 returns-3)

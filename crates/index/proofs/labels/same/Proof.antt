@@ -17,12 +17,7 @@ abbrev μ-loop : tie.MeasureT-loop
 μ-loop a b i₀ i = length a - i
 
 returns : tie.Need-returns Inv-loop μ-loop
-returns c =
-    let a = c .before .args in
-    sym (same-length (a .a .now) (a .b .now) (c .if1 .taken))
-
-loop-holds : tie.Need-loop-holds Inv-loop μ-loop
-loop-holds c = (omega arith, refl)
+returns c = let a = c .before .args in sym (same-length (a .a .now) (a .b .now) (c .if1 .taken))
 
 returns-2 : tie.Need-returns-2 Inv-loop μ-loop
 returns-2 c =
@@ -35,9 +30,9 @@ loop-again c =
     (l .inv .0, l .inv .1 ∙ same-more _ _ (l .i) (search needs) (search needs) (omega arith))
 
 returns-3 : tie.Need-returns-3 Inv-loop μ-loop
-returns-3 c =
-    let l = c .before .loop in
-    sym (l .inv .1 ∙ same-end _ _ (l .i) (search needs) (search needs))
+returns-3 c = let l = c .before .loop in sym (l .inv .1 ∙ same-end _ _ (l .i) (search needs) (search needs))
 
 pub same-spec : {M : Type 1} → statement M
-same-spec = tie.close (tie.spec Inv-loop μ-loop returns loop-holds (λ c. search needs) (λ c. search needs) returns-2 (λ c. search needs) (λ c. search needs) loop-again returns-3)
+same-spec =
+    tie.close (tie.spec Inv-loop μ-loop returns (λ c. (omega arith, refl)) (λ c. search needs) (λ c. search needs) returns-2 (λ c. search needs) (λ c. search needs)
+    loop-again returns-3)

@@ -5,8 +5,8 @@ use native.Mathlib.Omega.{arith}
 use lib.ListN.{length}
 use Rattle.layout.specs.declared.ShapeKind.the-variants.{Arc}
 use Rattle.layout.specs.Look.{arcIds}
-use Rattle.layout.proofs.Placed.{is-passed, as-refused, as-found}
-use Rattle.layout.proofs.Laws.{Found, found}
+use Rattle.layout.proofs.Placed.{is-passed, as-found}
+use Rattle.layout.proofs.Laws.{Found, found, look-refused}
 use Rattle.layout.proofs.Layout.arc_ids.Statement.{statement}
 use Rattle.layout.proofs.Layout.arc_ids.Tie as tie
 
@@ -14,25 +14,12 @@ use Rattle.layout.proofs.Layout.arc_ids.Tie as tie
 known : (c : tie.After-enum-told) → let a = c .before .before .before .before .args in Found Arc (a .self) (length (a .ids .now)) (a .i)
 known c = found _ _ _ _ (is-passed _ _ _ (c .before .before .look-place .ensures) _ (c .enum-told .given .1))
 
-mul-arc-vars : tie.Need-mul-arc-vars
-mul-arc-vars c = omega (arith, known (c .before))
-
-mul-arc-vars-2 : tie.Need-mul-arc-vars-2
-mul-arc-vars-2 c = omega (arith, known (c .before))
-
-add-arc-vars : tie.Need-add-arc-vars
-add-arc-vars c = omega (arith, known (c .before))
-
-arc-vars-requires : tie.Need-arc-vars-requires
-arc-vars-requires c κs = omega (arith, known (c .before))
-
-returns : tie.Need-returns
-unfolding arcIds
-returns c = as-refused _ _ _ (c .before .before .before .look-place .ensures) _ _ _ (c .before .place .given .1)
-
 returns-2 : tie.Need-returns-2
 unfolding arcIds
 returns-2 c = rw (c .arc-vars .ensures) (as-found _ _ _ (c .before .before .before .before .look-place .ensures) _ (c .before .before .enum-told .given .1) _ _)
 
 pub arc-ids-spec : {M : Type 1} → statement M
-arc-ids-spec = tie.close (tie.spec (λ c κs. search needs) (λ c. search needs) (λ c. search needs) mul-arc-vars mul-arc-vars-2 add-arc-vars arc-vars-requires returns returns-2)
+unfolding arcIds
+arc-ids-spec =
+    tie.close (tie.spec (λ c κs. search needs) (λ c. search needs) (λ c. search needs) (λ c. omega (arith, known (c .before))) (λ c. omega (arith, known (c .before)))
+    (λ c. omega (arith, known (c .before))) (λ c κs. omega (arith, known (c .before))) (λ c. look-refused _ _ _ _ _ _ _ (cc)) returns-2)

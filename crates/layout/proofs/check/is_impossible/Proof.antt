@@ -4,9 +4,6 @@ use Rattle.layout.specs.Refusals.{impossible}
 use Rattle.layout.proofs.check.is_impossible.Statement.{statement}
 use Rattle.layout.proofs.check.is_impossible.Tie as tie
 
-returns : tie.Need-returns
-unfolding impossible
-returns c = cc
-
 pub is-impossible-spec : {M : Type 1} → statement M
-is-impossible-spec = tie.close (tie.spec (λ c κs. search needs) returns)
+unfolding impossible
+is-impossible-spec = tie.close (tie.spec (λ c κs. search needs) (λ c. cc))

@@ -8,9 +8,6 @@ use Rattle.layout.proofs.check.look_place.Tie as tie
 returns : tie.Need-returns
 returns c = rw (c .refused .ensures) (look-impossible _ _ _ _ (cc))
 
-slots-requires : tie.Need-slots-requires
-slots-requires c κs = small _ (cc)
-
 returns-2 : tie.Need-returns-2
 returns-2 c = rw (c .refused2 .ensures) (look-short _ _ _ _ (cc) (omega arith))
 
@@ -27,4 +24,6 @@ returns-4 : tie.Need-returns-4
 returns-4 c = look-at _ _ _ _ (cc) (omega arith) _ (c .slot .ensures) (omega arith)
 
 pub look-place-spec : {M : Type 1} → statement M
-look-place-spec = tie.close (tie.spec (λ c κs. search needs) (λ c κs. search needs) returns slots-requires (λ c κs. search needs) returns-2 (λ c κs. search needs) (λ c κs. search needs) returns-3 slot-requires returns-4)
+look-place-spec =
+    tie.close (tie.spec (λ c κs. search needs) (λ c κs. search needs) returns (λ c κs. small _ (cc)) (λ c κs. search needs) returns-2 (λ c κs. search needs)
+    (λ c κs. search needs) returns-3 slot-requires returns-4)

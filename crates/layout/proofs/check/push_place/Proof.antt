@@ -14,9 +14,6 @@ returns-2 c = rw (c .refused2 .ensures) (push-wrong-stage _ _ _ _ _ (cc) (λ e. 
 returns-3 : tie.Need-returns-3
 returns-3 c = rw (c .refused3 .ensures) (push-full _ _ _ _ _ (cc) (omega arith) (omega arith))
 
-slots-requires : tie.Need-slots-requires
-slots-requires c κs = small _ (cc)
-
 returns-4 : tie.Need-returns-4
 returns-4 c = rw (c .refused4 .ensures) (push-short _ _ _ _ _ (cc) (omega arith) (omega arith) (cc))
 
@@ -27,4 +24,7 @@ returns-6 : tie.Need-returns-6
 returns-6 c = push-at _ _ _ _ _ (cc) (omega arith) (omega arith) (cc) _ (omega arith) (omega arith)
 
 pub push-place-spec : {M : Type 1} → statement M
-push-place-spec = tie.close (tie.spec (λ c κs. search needs) (λ c κs. search needs) returns (λ c κs. search needs) (λ c κs. search needs) (λ c κs. search needs) returns-2 (λ c κs. search needs) (λ c κs. search needs) returns-3 slots-requires (λ c κs. search needs) (λ c. omega arith) (λ c κs. search needs) returns-4 (λ c. search needs) (λ c. search needs) (λ c κs. search needs) (λ c κs. search needs) returns-5 returns-6)
+push-place-spec =
+    tie.close (tie.spec (λ c κs. search needs) (λ c κs. search needs) returns (λ c κs. search needs) (λ c κs. search needs) (λ c κs. search needs) returns-2
+    (λ c κs. search needs) (λ c κs. search needs) returns-3 (λ c κs. small _ (cc)) (λ c κs. search needs) (λ c. omega arith) (λ c κs. search needs) returns-4
+    (λ c. search needs) (λ c. search needs) (λ c κs. search needs) (λ c κs. search needs) returns-5 returns-6)

@@ -3,14 +3,7 @@ use borrow.Author.Needs.{needs}
 use Rattle.layout.proofs.check.with_one.Statement.{statement}
 use Rattle.layout.proofs.check.with_one.Tie as tie
 
-returns : tie.Need-returns
-returns c = rw (c .before .enum-told .given .1)
-
-returns-2 : tie.Need-returns-2
-returns-2 c = rw (c .before .enum-told2 .given .1)
-
-returns-3 : tie.Need-returns-3
-returns-3 c = rw (c .before .enum-told3 .given .1)
-
 pub with-one-spec : {M : Type 1} → statement M
-with-one-spec = tie.close (tie.spec (λ c. search needs) (λ c. search needs) (λ c. search needs) (λ c. search needs) (λ c. search needs) (λ c. search needs) returns returns-2 returns-3)
+with-one-spec =
+    tie.close (tie.spec (λ c. search needs) (λ c. search needs) (λ c. search needs) (λ c. search needs) (λ c. search needs) (λ c. search needs)
+    (λ c. rw (c .before .enum-told .given .1)) (λ c. rw (c .before .enum-told2 .given .1)) (λ c. rw (c .before .enum-told3 .given .1)))
