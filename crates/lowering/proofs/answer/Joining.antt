@@ -18,7 +18,7 @@ use Rattle.drawing.specs.Check.{countBelow}
 use Rattle.drawing.proofs.Laws.{count-kinds}
 use Rattle.lowering.specs.Slots.{slots, layoutOf}
 use Rattle.lowering.specs.Lower.{onto}
-use Rattle.lowering.specs.Steps.{laid, rowsBelow, RowTables, Writable, Slotted, Passing, Filled}
+use Rattle.lowering.specs.Steps.{laid, rowsBy, RowTables, Writable, Slotted, Passing, Filled}
 use Rattle.lowering.proofs.slots.Pushes.{laid-is}
 use Rattle.lowering.proofs.rows.Tied.{writable, rows-are}
 
@@ -48,7 +48,7 @@ module _ (es : List Entry) (next : ℕ) (ids : List ℕ) (values : List Float) (
   pub then-writable : Writable es l ids′ rows
   then-writable = rw (layout-is, ids-are) (writable es next ids values rows p)
 
-  pub then-filled : (rows′ : List ℕ) → rows′ ≡ onto rows (rowsBelow es l ids′ (length es)) → Filled es next ids values rows l ids′ values′ rows′
+  pub then-filled : (rows′ : List ℕ) → rows′ ≡ onto rows (rowsBy es l ids′) → Filled es next ids values rows l ids′ values′ rows′
   then-filled rows′ e = record {
     layout-is = layout-is;
     ids-are = ids-are;

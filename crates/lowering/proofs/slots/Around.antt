@@ -1,5 +1,6 @@
 -- Where the slots of a declared shape stand among all slots: its kind's labels are cut at its own, and no other slot has its label. Assumes nothing.
-use mathlib.Core.Path.{_≡_, sym, ap, _∙_}
+use mathlib.Core.Path.{_≡_, refl, sym, ap, _∙_}
+use mathlib.Core.Logic.{inl, inr}
 use mathlib.Core.Bool.{true}
 use mathlib.Core.List.{List, _∷_, _++_, append-assoc}
 use Prim.Native.Nat.{ℕ, suc, _+_, _*_, _<_}
@@ -11,12 +12,12 @@ use Rattle.record.specs.Entry.{Label, Entry, noEntry, entryAt, labelNo}
 use Rattle.index.specs.Labels.{kindNo, nameNo, within}
 use Rattle.drawing.specs.Needs.{Shape, point, circle, arc, declaring}
 use Rattle.ground.specs.Lists.{flat}
-use Rattle.lowering.specs.Slots.{Slot, slotsOfShape, labelsOf, slotsOf, slots, size, before, firstSlot}
+use Rattle.lowering.specs.Slots.{Slot, slot, slotsOfShape, labelsOf, slotsOf, slots, size, before, firstSlot}
 use Rattle.lowering.specs.Demand.{Declares}
 use Rattle.ground.proofs.Pieces.{Each, each-append, each-flat, flat-append, picks-around, picks-each}
 use Rattle.index.proofs.Laws.{within-one}
 use Rattle.lowering.proofs.drawing.Counts.{labels-pick, labels-before, labels-all, length-of}
-use Rattle.lowering.proofs.drawing.Fine.{Once, Fine, declaration}
+use Rattle.lowering.proofs.drawing.Fine.{Once, Fine, declaration, Behind}
 
 -- ---- what holds of each declared shape's label holds of each slot's
 
@@ -36,11 +37,12 @@ each-of-all Q es f =
     each-append Q (slotsOf point es) (slotsOf circle es ++ slotsOf arc es) (f point)
     (each-append Q (slotsOf circle es) (slotsOf arc es) (f circle) (f arc))
 
--- a shape's slots have its label
-pub own-label : (P : Label → Type 0) (s : Shape) (l : Label) → P l → Each (λ (t : Slot). P (t .shape)) (slotsOfShape s l)
-own-label P point l h = (h, (h, tt))
-own-label P circle l h = (h, (h, (h, tt)))
-own-label P arc l h = (h, (h, (h, (h, (h, (h, tt))))))
+-- what holds of a shape's label, whatever stands behind it, holds of its slots
+pub each-own : (Q : Slot → Type 0) (s : Shape) (l : Label) → ((u : Label) (a : ℕ) → Behind u → Q (slot l u a)) → Each Q (slotsOfShape s l)
+each-own Q point l f = (f _ _ (inl refl), (f _ _ (inl refl), tt))
+each-own Q circle l f = (f _ _ (inr (_, refl)), (f _ _ (inr (_, refl)), (f _ _ (inr (_, refl)), tt)))
+each-own Q arc l f =
+    (f _ _ (inr (_, refl)), (f _ _ (inr (_, refl)), (f _ _ (inr (_, refl)), (f _ _ (inr (_, refl)), (f _ _ (inr (_, refl)), (f _ _ (inr (_, refl)), tt))))))
 
 -- ---- the slots of the shape that record i declares, where no other record declares its label
 
@@ -65,7 +67,7 @@ module _ (es : List Entry) (i : ℕ) (s : Shape) (d : Declares es i s) (once : O
       ∙ flat-append (slotsOfShape s) (labelsOf s (take i es)) (nameNo es i ∷ labelsOf s (drop (suc i) es))
 
   others : (t : Shape) (fs : List Entry) → ((j : ℕ) → Declares fs j t → nameNo fs j ≡ nameNo es i → ⊥) → Each (Other (nameNo es i)) (slotsOf t fs)
-  others t fs f = each-slot (λ (l : Label). l ≡ nameNo es i → ⊥) (Other (nameNo es i)) t fs (own-label (λ (l : Label). l ≡ nameNo es i → ⊥) t) f
+  others t fs f = each-slot (λ (l : Label). l ≡ nameNo es i → ⊥) (Other (nameNo es i)) t fs (λ l n. each-own (Other (nameNo es i)) t l (λ u a b. n)) f
 
   front-other : Each (Other (nameNo es i)) (slotsOf s (take i es))
   front-other =

@@ -17,7 +17,7 @@ use Rattle.lowering.specs.Demand.{noSlot, slotAt, Declares, ComponentOf,
 use Rattle.ground.proofs.Pieces.{Each, each-of, each-at}
 use Rattle.lowering.proofs.drawing.Counts.{length-shape}
 use Rattle.lowering.proofs.drawing.Fine.{Fine, same-shape, same-record}
-use Rattle.lowering.proofs.slots.Around.{around-fine, each-slot, each-of-all, own-label}
+use Rattle.lowering.proofs.slots.Around.{around-fine, each-slot, each-of-all, each-own}
 
 -- ---- each slot is a component of a declared shape
 
@@ -96,7 +96,7 @@ pub label-of : (es : List Entry) (i : ℕ) (s : Shape) (k : ℕ) (t : Slot) → 
 label-of es i s k t c =
     let l = nameNo es i in
     ap (λ (z : Slot). z .shape) (c .is)
-    ∙ each-at (λ (z : Slot). z .shape ≡ l) (slotsOfShape s l) noSlot (own-label (λ (z : Label). z ≡ l) s l refl) k (subst (λ (n : ℕ). k < n) (sym (length-shape s l)) (c .one-of-it))
+    ∙ each-at (λ (z : Slot). z .shape ≡ l) (slotsOfShape s l) noSlot (each-own (λ (z : Slot). z .shape ≡ l) s l (λ u a b. refl)) k (subst (λ (n : ℕ). k < n) (sym (length-shape s l)) (c .one-of-it))
 
 -- ---- a slot and its component
 
