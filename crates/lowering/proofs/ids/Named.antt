@@ -23,7 +23,7 @@ use Rattle.lowering.specs.Steps.{centerBy, axisAt}
 use Rattle.ground.proofs.Pieces.{Each, each-left, each-right, each-both}
 use Rattle.lowering.proofs.drawing.Counts.{length-shape}
 use Rattle.lowering.proofs.drawing.Fine.{Fine, NoDot, Behind, plain-no-dot, plain-name, same-stem}
-use Rattle.lowering.proofs.slots.Around.{around-fine, Other, each-slot, each-of-all, each-own}
+use Rattle.lowering.proofs.slots.Around.{around, Other, each-slot, each-of-all, each-own}
 use Rattle.lowering.proofs.ids.Tested.{ids-all, ids-middle, ids-same}
 
 -- the test of a name says that it names
@@ -95,7 +95,7 @@ module _ (es : List Entry) (w : Fine es) (j : ℕ) (s : Shape) (d : Declares es 
   ids-own : (p : Slot → Bool) → ((t : Slot) → Clean t → p t ≡ true → t .shape ≡ nameNo es j)
       → idsWhere p next (slots es) ≡ idsWhere p (next + firstSlot s es j) (slotsOfShape s (nameNo es j))
   ids-own p only =
-      let a = around-fine es w j s d in
+      let a = around es w j s d in
       let own = slotsOfShape s (nameNo es j) in
       let all = rw (a .is) at (clean es w) in
       let none = each-both (Other (nameNo es j)) Clean (λ t. p t ≡ false) (λ t f c. refuted says-so (λ e. f (only t c e))) in
