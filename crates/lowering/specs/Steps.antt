@@ -3,7 +3,7 @@
 use mathlib.Core.Path.{_≡_}
 use mathlib.Core.Bool.{Bool, false, _||_, cond}
 use mathlib.Core.List.{List, [], _∷_}
-use Prim.Native.Nat.{ℕ, zero, suc, _+_, _*_, _-_, _≤_, _<_}
+use Prim.Native.Nat.{ℕ, _+_, _*_, _-_, _≤_, _<_}
 use lib.Dec.{ltb, eqb}
 use lib.ListN.{length, getD, take, drop}
 use lib.Ieee.{Float}
@@ -12,6 +12,8 @@ use Rattle.refusal.specs.First.{EachBelow, passed}
 use Rattle.layout.specs.declared.Layout.{Layout}
 use Rattle.layout.specs.declared.Pushed.{Pushed}
 use Rattle.layout.specs.declared.Pushed.the-variants as P
+use Rattle.layout.specs.declared.Stepped.{Stepped}
+use Rattle.layout.specs.declared.Stepped.the-variants as S
 use Rattle.layout.specs.declared.Point as LP
 use Rattle.layout.specs.declared.Circle as LC
 use Rattle.layout.specs.declared.Arc as LA
@@ -22,16 +24,14 @@ use Rattle.layout.specs.declared.CircleIds.the-variants as CI
 use Rattle.layout.specs.declared.ArcIds.{ArcIds}
 use Rattle.layout.specs.declared.ArcIds.the-variants as AI
 use Rattle.layout.specs.Slots as layout
-use Rattle.refusal.specs.First.{answered}
 use Rattle.layout.specs.Slots.{idsEnd}
-use Rattle.layout.specs.Refusals.{reasonNumber, doneTold}
-use Rattle.layout.specs.Push.{State, over, onward, after, stepped}
+use Rattle.layout.specs.Push.{State, over, onward, after}
 use Rattle.layout.specs.Run.{act, done}
 use Rattle.layout.specs.Look.{pointIds, circleIds, arcSlotIds}
 use Rattle.record.specs.Record.{mostRecords}
 use Rattle.record.specs.Kinds.{kindAt, Rule, newPoint, newCircle, newArc, firstRule, lastRule}
 use Rattle.record.specs.Entry.{Label, Entry, entryAt, labelNo}
-use Rattle.index.specs.Labels.{kindNo, nameNo, same, within, labelled, lowestOr}
+use Rattle.index.specs.Labels.{kindNo, same, within, labelled, lowestOr}
 use Rattle.index.specs.Chains.{Chained}
 use Rattle.drawing.specs.Needs.{Shape, point, circle, arc}
 use Rattle.drawing.specs.Check.{countBelow, checkOf}
@@ -78,22 +78,23 @@ abbrev pub layoutAfter : Pushed → Layout → Layout
 layoutAfter (P.Good m next) l = m
 layoutAfter (P.Refused r) l = l
 
--- the state after entry i is pushed, if it is of a kind
-unfoldable pub pushedAt : List Entry → ℕ → ℕ → State → State
-pushedAt es kind i s = cond (eqb (kindNo es i) kind) (after (shapeFor es (shapeOf kind) (nameNo es i)) s) s
+-- the state after an entry is pushed, if it is of a kind
+unfoldable pub pushedAt : List Entry → ℕ → Entry → State → State
+pushedAt es kind e s = cond (eqb (e .kind) kind) (after (shapeFor es (shapeOf kind) (labelNo e 0)) s) s
 
--- the state after those of the first n entries that are of a kind are pushed
-unfoldable pub pushedBelow : List Entry → ℕ → ℕ → State → State
-pushedBelow es kind zero s = s
-pushedBelow es kind (suc i) s = pushedAt es kind i (pushedBelow es kind i s)
+-- the state after those of some entries that are of a kind are pushed
+unfoldable pub pushedAll : List Entry → ℕ → List Entry → State → State
+pushedAll es kind [] s = s
+pushedAll es kind (e ∷ fs) s = pushedAll es kind fs (pushedAt es kind e s)
 
--- the layout at the next stage
-abbrev pub step : Layout → Layout
-step l = answered reasonNumber (λ r. l) (doneTold l) (stepped l)
+-- the layout after `done`
+abbrev pub layoutThen : Stepped → Layout → Layout
+layoutThen (S.Good m) l = m
+layoutThen (S.Refused r) l = l
 
 -- the state after all shapes of a kind are pushed, at the next stage
 abbrev pub stage : List Entry → ℕ → State → State
-stage es kind s = act done (pushedBelow es kind (length es) s)
+stage es kind s = act done (pushedAll es kind es s)
 
 -- the state after all pushes
 unfoldable pub laid : List Entry → State → State

@@ -2,13 +2,11 @@
 -- With room and ids enough the layout takes them all, and the slots hold the starting values. Assumes nothing.
 use mathlib.Core.Path.{_≡_, refl, sym, _∙_, ap}
 use mathlib.Core.Bool.{Bool, true, false, cond}
-use mathlib.Core.List.{List, [], _∷_, _++_, map, map-map, map-append, append-nil}
-use Prim.Native.Nat.{ℕ, zero, suc, _+_, _≤_, _<_}
-use native.Mathlib.Nat.{le-refl}
+use mathlib.Core.List.{List, [], _∷_, _++_, map, map-map, map-append}
+use Prim.Native.Nat.{ℕ, _+_, _≤_}
 use native.Mathlib.Omega.{arith}
 use lib.Dec.{eqb}
-use lib.ListN.{length, take, length-map}
-use lib.Seq.{take-length}
+use lib.ListN.{length, length-map}
 use lib.Ieee.{Float}
 use Rattle.layout.specs.declared.Point.{Point}
 use Rattle.layout.specs.declared.Circle.{Circle}
@@ -19,16 +17,14 @@ use Rattle.layout.specs.Run.{Act, push, done, act, run, allComponents, shapesOf
 use Rattle.layout.proofs.Onward.{length-onward}
 use Rattle.layout.proofs.Runs.{Kept, kept, all-append}
 use Rattle.layout.proofs.Claims.{all-accepted}
-use Rattle.record.specs.Entry.{Label, Entry, noEntry}
-use Rattle.index.specs.Labels.{kindNo, nameNo}
+use Rattle.record.specs.Entry.{Label, Entry, labelNo}
+use Rattle.index.specs.Labels.{kindNo}
 use Rattle.drawing.specs.Needs.{Shape, point, circle, arc, declaring}
 use Rattle.ground.specs.Lists.{flat}
 use Rattle.lowering.specs.Slots.{slotsOfShape, labelsOf, slots, howMany, layoutOf, startOf, valuesOf}
 use Rattle.lowering.specs.Lower.{onto}
-use Rattle.lowering.specs.Steps.{pairFor, circleFor, arcFor, shapeFor, shapeOf, pushedAt, pushedBelow, stage, laid, Passing}
-use Rattle.ground.proofs.Pieces.{picks-suc}
-use Rattle.index.proofs.Laws.{within-one}
-use Rattle.lowering.proofs.drawing.Counts.{labels-pick, labels-all, count-le, length-slots}
+use Rattle.lowering.specs.Steps.{pairFor, circleFor, arcFor, shapeFor, shapeOf, pushedAt, pushedAll, stage, laid, Passing}
+use Rattle.lowering.proofs.drawing.Counts.{labels-all, count-le, length-slots}
 use Rattle.lowering.proofs.slots.Values.{length-values, values-parts}
 
 -- ---- runs
@@ -38,52 +34,30 @@ unfolding run
 run-append [] ys s = refl
 run-append (a ∷ xs) ys s = run-append xs ys (act a s)
 
-run-done : (rest : List Act) (s : State) → run (done ∷ rest) s ≡ run rest (act done s)
-unfolding run
-run-done rest s = refl
-
-run-none : (s : State) → run [] s ≡ s
-unfolding run
-run-none s = refl
-
 shape-back : (s : Shape) → shapeOf (declaring s) ≡ s
 shape-back point = refl
 shape-back circle = refl
 shape-back arc = refl
 
 module _ (es : List Entry) (s : Shape) where
-  -- labels, one record more
-  labels-more : (n : ℕ) → n < length es → labelsOf s (take (suc n) es) ≡ labelsOf s (take n es) ++ cond (eqb (kindNo es n) (declaring s)) (nameNo es n ∷ []) []
-  labels-more n h =
-      picks-suc _ _ _ (labels-pick s) es n noEntry h
-      ∙ ap (λ (b : Bool). labelsOf s (take n es) ++ cond b (nameNo es n ∷ []) []) (within-one (declaring s) (kindNo es n))
-
   abbrev shapes : List Label → List layout.Shape
   shapes ls = map (shapeFor es s) ls
 
-  module _ (st : State) where
-    one-more : (b : Bool) (ls : List Label) (l : Label)
-        → cond b (after (shapeFor es s l) (run (map push (shapes ls)) st)) (run (map push (shapes ls)) st) ≡ run (map push (shapes (ls ++ cond b (l ∷ []) []))) st
-    unfolding run
-    one-more true ls l =
-        sym (rw (map-append (shapeFor es s) ls (l ∷ []), map-append push (shapes ls) (shapeFor es s l ∷ []), run-append (map push (shapes ls)) (push (shapeFor es s l) ∷ []) st) refl)
-    one-more false ls l = rw append-nil refl
+  -- the shapes of a kind among some records
+  pushed-run : (fs : List Entry) (st : State) → pushedAll es (declaring s) fs st ≡ run (map push (shapes (labelsOf s fs))) st
+  unfolding pushedAll pushedAt run
+  pushed-run [] st = refl
+  pushed-run (e ∷ fs) st = rw (shape-back s, pushed-run fs) (go (eqb (e .kind) (declaring s)))
+    where
+      go : (b : Bool) → run (map push (shapes (labelsOf s fs))) (cond b (after (shapeFor es s (labelNo e 0)) st) st)
+          ≡ run (map push (shapes (cond b (labelNo e 0 ∷ labelsOf s fs) (labelsOf s fs)))) st
+      go true = refl
+      go false = refl
 
-    -- the shapes of a kind among the first n records
-    pushed-run : (n : ℕ) → n ≤ length es → pushedBelow es (declaring s) n st ≡ run (map push (shapes (labelsOf s (take n es)))) st
-    unfolding pushedBelow pushedAt run
-    pushed-run zero h = refl
-    pushed-run (suc n) h =
-        rw (shape-back s, pushed-run n (omega (arith, h)), labels-more n h)
-        (one-more (eqb (kindNo es n) (declaring s)) (labelsOf s (take n es)) (nameNo es n))
-
-    -- all of them, and `done` after them, with whatever follows
-    stage-run : (rest : List Act) → run (map push (shapes (labelsOf s es)) ++ (done ∷ rest)) st ≡ run rest (stage es (declaring s) st)
-    stage-run rest =
-        run-append (map push (shapes (labelsOf s es))) (done ∷ rest) st
-        ∙ run-done rest (run (map push (shapes (labelsOf s es))) st)
-        ∙ ap (λ (z : State). run rest (act done z))
-        (ap (λ (z : List Entry). run (map push (shapes (labelsOf s z))) st) (sym (take-length es)) ∙ sym (pushed-run (length es) (le-refl (length es))))
+  -- all of them, and `done` after them, with whatever follows
+  stage-run : (st : State) (rest : List Act) → run (map push (shapes (labelsOf s es)) ++ (done ∷ rest)) st ≡ run rest (stage es (declaring s) st)
+  unfolding run
+  stage-run st rest = rw (run-append, pushed-run es st) refl
 
   -- ---- their components
 
@@ -119,11 +93,11 @@ module _ (es : List Entry) where
 
   -- the pushes are a run of points, circles and arcs
   laid-run : (st : State) → laid es st ≡ run (runOf points circles arcs) st
-  unfolding laid
+  unfolding laid run
   laid-run st =
       sym
       (rw (points-are, circles-are, arcs-are)
-      (stage-run es point st _ ∙ stage-run es circle (stage es 1 st) _ ∙ stage-run es arc (stage es 2 (stage es 1 st)) [] ∙ run-none _))
+      (stage-run es point st _ ∙ stage-run es circle (stage es 1 st) _ ∙ stage-run es arc (stage es 2 (stage es 1 st)) []))
 
   -- and their components the starting values
   values-are : allComponents (shapesOf points circles arcs) ≡ valuesOf es
