@@ -3,7 +3,7 @@
 use mathlib.Core.Path.{_≡_, refl, sym, _∙_, ap}
 use mathlib.Core.Bool.{Bool, true, false, cond}
 use mathlib.Core.List.{List, [], _∷_, _++_, map, map-map, map-append}
-use Prim.Native.Nat.{ℕ, _+_, _≤_}
+use Prim.Native.Nat.{ℕ, _+_}
 use native.Mathlib.Omega.{arith}
 use lib.Dec.{eqb}
 use lib.ListN.{length, length-map}
@@ -18,14 +18,13 @@ use Rattle.layout.proofs.Onward.{length-onward}
 use Rattle.layout.proofs.Runs.{Kept, kept, all-append}
 use Rattle.layout.proofs.Claims.{all-accepted}
 use Rattle.record.specs.Entry.{Label, Entry, labelNo}
-use Rattle.index.specs.Labels.{kindNo}
 use Rattle.drawing.specs.Needs.{Shape, point, circle, arc, declaring}
 use Rattle.ground.specs.Lists.{flat}
 use Rattle.lowering.specs.Slots.{slotsOfShape, labelsOf, slots, howMany, layoutOf, startOf, valuesOf}
 use Rattle.lowering.specs.Lower.{onto}
 use Rattle.lowering.specs.Steps.{pairFor, circleFor, arcFor, shapeFor, shapeOf, pushedAt, pushedAll, stage, laid, Passing}
-use Rattle.lowering.proofs.drawing.Counts.{labels-all, count-le, length-slots}
-use Rattle.lowering.proofs.slots.Values.{length-values, values-parts}
+use Rattle.lowering.proofs.drawing.Counts.{labels-all, few-of, length-slots}
+use Rattle.lowering.proofs.slots.Values.{length-values}
 
 -- ---- runs
 
@@ -101,25 +100,10 @@ module _ (es : List Entry) where
 
   -- and their components the starting values
   values-are : allComponents (shapesOf points circles arcs) ≡ valuesOf es
-  values-are =
-      rw (points-are, circles-are, arcs-are)
-      (all-append (shapes es point (labelsOf point es)) (shapes es circle (labelsOf circle es) ++ shapes es arc (labelsOf arc es))
-      ∙ rw (
-        all-append (shapes es circle (labelsOf circle es)) (shapes es arc (labelsOf arc es)),
-        components-are es point (labelsOf point es),
-        components-are es circle (labelsOf circle es),
-        components-are es arc (labelsOf arc es),
-      )
-      (sym (values-parts es)))
+  unfolding valuesOf slots
+  values-are = rw (points-are, circles-are, arcs-are) (simp (all-append, map-append, components-are es point, components-are es circle, components-are es arc))
 
 -- ---- a drawing that passes
-
--- the layout of a drawing, with ids and starting values in its slots
-pub record LaidOut (es : List Entry) (next : ℕ) (ids : List ℕ) (values : List Float) (s : State) : Type 0 where
-  pub layout-is : s .layout ≡ layoutOf es
-  pub next-is : s .next ≡ next + length (slots es)
-  pub ids-are : s .ids ≡ onto ids (onward next (length (slots es)))
-  pub values-are : s .values ≡ onto values (valuesOf es)
 
 module _ (es : List Entry) (next : ℕ) (ids : List ℕ) (values : List Float) (rows : List ℕ) (p : Passing es next ids values rows) where
   abbrev first : State
@@ -131,35 +115,25 @@ module _ (es : List Entry) (next : ℕ) (ids : List ℕ) (values : List Float) (
   counted : {X : Type 0} (s : Shape) (f : Label → X) → length (map f (labelsOf s es)) ≡ howMany s es
   counted s f = length-map (labelsOf s es) f ∙ labels-all es s
 
-  few : (s : Shape) → howMany s es ≤ layout.mostShapes
-  few s = omega (arith, p .few, count-le (kindNo es) (declaring s) (declaring s) (length es))
-
   room : Room first (length (points es)) (length (circles es)) (length (arcs es))
   room =
       rw (counted point (λ l. pairFor es l []), counted circle (circleFor es), counted arc (arcFor es))
       (record {
-        points = few point;
-        circles = few circle;
-        arcs = few arc;
+        points = few-of es (omega (arith, p .few)) point;
+        circles = few-of es (omega (arith, p .few)) circle;
+        arcs = few-of es (omega (arith, p .few)) arc;
         in-ids = omega (arith, length-slots es, p .enough .ids-lent);
         in-values = omega (arith, length-slots es, p .enough .values-lent);
         left = omega (arith, length-slots es, p .enough .ids-left);
       })
 
-  all-kept : Kept first (shapesOf (points es) (circles es) (arcs es)) (run acts first)
-  all-kept = rw (all-accepted next ids values (points es) (circles es) (arcs es) room .all-taken) at (kept next ids values acts)
-
-  ran : LaidOut es next ids values (run acts first)
-  ran =
+  -- the layout of the drawing, with ids and starting values in its slots
+  pub laid-is : laid es (state layout.empty next ids values) ≡ state (layoutOf es) (next + length (slots es)) (onto ids (onward next (length (slots es)))) (onto values (valuesOf es))
+  laid-is =
+      let accepted = all-accepted next ids values (points es) (circles es) (arcs es) room in
+      let k : Kept first (shapesOf (points es) (circles es) (arcs es)) (run acts first) = rw (accepted .all-taken) at (kept next ids values acts) in
       let n : length (allComponents (shapesOf (points es) (circles es) (arcs es))) ≡ length (slots es) = ap length (values-are es) ∙ length-values es in
-      record {
-        layout-is =
-            all-accepted next ids values (points es) (circles es) (arcs es) room .layout-is
-            ∙ rw (counted point (λ l. pairFor es l []), counted circle (circleFor es), counted arc (arcFor es)) refl;
-        next-is = all-kept .next-is ∙ rw n refl;
-        ids-are = all-kept .ids-are ∙ rw (n, length-onward next (length (slots es))) refl;
-        values-are = all-kept .values-are ∙ rw (values-are es) refl;
-      }
-
-  pub laid-is : LaidOut es next ids values (laid es (state layout.empty next ids values))
-  laid-is = rw (laid-run es first) ran
+      let layout-is : run acts first .layout ≡ layoutOf es =
+      accepted .layout-is ∙ rw (counted point (λ l. pairFor es l []), counted circle (circleFor es), counted arc (arcFor es)) refl in
+      let ids-are : run acts first .ids ≡ onto ids (onward next (length (slots es))) = k .ids-are ∙ rw (n, length-onward next (length (slots es))) refl in
+      laid-run es first ∙ (λ i. state (layout-is i) ((rw n at (k .next-is)) i) (ids-are i) ((rw (values-are es) at (k .values-are)) i))
