@@ -15,7 +15,6 @@ use Rattle.layout.specs.declared.Layout.{Layout}
 use Rattle.layout.specs.Slots as layout
 use Rattle.layout.specs.Slots.{idsEnd}
 use Rattle.layout.specs.Push.{onward}
-use Rattle.layout.proofs.Onward.{length-onward, getD-onward}
 use Rattle.record.specs.Record.{recordBytes, mostRecords, longestText}
 use Rattle.record.specs.Decode.{countOf, recordOf}
 use Rattle.record.specs.Entry.{Entry, noEntry, upTo}
@@ -35,7 +34,7 @@ use Rattle.lowering.proofs.drawing.Fine.{Fine, fine, passed-with}
 use Rattle.lowering.proofs.slots.Components.{one-component, slot-of}
 use Rattle.lowering.proofs.slots.Values.{starts, length-values, value-at}
 use Rattle.lowering.proofs.slots.Fields.{read-out}
-use Rattle.lowering.proofs.slots.Looked.{looked-up}
+use Rattle.lowering.proofs.slots.Looked.{given-id, given-long, looked-up}
 use Rattle.lowering.proofs.rows.Bytes.{rule-inside, row-of}
 
 -- ---- the list of a drawing is short enough for a layout
@@ -65,18 +64,8 @@ entries-few text bs = go (leb (length text) longestText && leb (countOf bs) most
 -- ---- what is written
 
 module _ (es : List Entry) (w : Fine es) (few : length es ≤ layout.mostShapes) (next : ℕ) (left : next + length (slots es) ≤ idsEnd) (ids : List ℕ) (values : List Float) (rows : List ℕ) where
-  written-id : EachBelow (length (slots es)) (λ j. getD (onto ids (onward next (length (slots es)))) j 0 ≡ next + j)
-  written-id j h =
-      let n = length (slots es) in
-      List·getD-append (onward next n) (drop (length (onward next n)) ids) 0 j (omega (arith, h, length-onward next n)) ∙ getD-onward next n j h
-
   written-value : EachBelow (length (slots es)) (λ j. getD (onto values (valuesOf es)) j nan ≡ getD (valuesOf es) j nan)
   written-value j h = List·getD-append (valuesOf es) (drop (length (valuesOf es)) values) nan j (omega (arith, h, length-values es))
-
-  long : length (slots es) ≤ length (onto ids (onward next (length (slots es))))
-  long =
-      let n = length (slots es) in
-      omega (arith, length-append (onward next n) (drop (length (onward next n)) ids), length-onward next n)
 
   pub cannot-go-wrong : CannotGoWrong es (howMany point es) (howMany circle es) (howMany arc es) (rulesBefore es (length es)) next
       (onto ids (onward next (length (slots es)))) (onto values (valuesOf es)) (onto rows (encodeRows (rowsOf es next)))
@@ -85,13 +74,13 @@ module _ (es : List Entry) (w : Fine es) (few : length es ≤ layout.mostShapes)
     circles = refl;
     arcs = refl;
     slot-count = slot-count es;
-    id-at = written-id;
-    distinct = λ j k h g e. omega (arith, e, written-id j h, written-id k g);
-    fit = λ j h. omega (arith, h, left, written-id j h);
+    id-at = given-id es next ids;
+    distinct = λ j k h g e. omega (arith, e, given-id es next ids j h, given-id es next ids k g);
+    fit = λ j h. omega (arith, h, left, given-id es next ids j h);
     one-component = one-component es w;
     each-has-one = slot-of es w;
     looked-up = λ i s k t c.
-        looked-up es few (onto ids (onward next (length (slots es)))) long i s k t (next + (firstSlot s es i + k)) c (written-id (firstSlot s es i + k) (slot-of es w i s k (c .declared) (c .one-of-it) .0));
+        looked-up es few (onto ids (onward next (length (slots es)))) (given-long es next ids) i s k t (next + (firstSlot s es i + k)) c (given-id es next ids (firstSlot s es i + k) (slot-of es w i s k (c .declared) (c .one-of-it) .0));
     starts = λ j h. rw (written-value j h, value-at es j h) (starts es w j h);
     row-count = refl;
     one-row = λ i h u. (omega (arith, rule-inside es i h u, rules-all es), row-of es next i h u w left (drop (length (encodeRows (rowsOf es next))) rows));

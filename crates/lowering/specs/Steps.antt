@@ -2,8 +2,8 @@
 -- need not be read.
 use mathlib.Core.Path.{_≡_}
 use mathlib.Core.Bool.{Bool, false, _||_, cond}
-use mathlib.Core.List.{List, [], _∷_, _++_}
-use Prim.Native.Nat.{ℕ, zero, suc, _+_, _*_, _-_, _≤_, _<_}
+use mathlib.Core.List.{List, [], _∷_}
+use Prim.Native.Nat.{ℕ, _+_, _*_, _-_, _≤_, _<_}
 use lib.Dec.{ltb, eqb}
 use lib.ListN.{length, getD, take, drop}
 use lib.Ieee.{Float}
@@ -12,6 +12,8 @@ use Rattle.refusal.specs.First.{EachBelow, passed}
 use Rattle.layout.specs.declared.Layout.{Layout}
 use Rattle.layout.specs.declared.Pushed.{Pushed}
 use Rattle.layout.specs.declared.Pushed.the-variants as P
+use Rattle.layout.specs.declared.Stepped.{Stepped}
+use Rattle.layout.specs.declared.Stepped.the-variants as S
 use Rattle.layout.specs.declared.Point as LP
 use Rattle.layout.specs.declared.Circle as LC
 use Rattle.layout.specs.declared.Arc as LA
@@ -22,17 +24,14 @@ use Rattle.layout.specs.declared.CircleIds.the-variants as CI
 use Rattle.layout.specs.declared.ArcIds.{ArcIds}
 use Rattle.layout.specs.declared.ArcIds.the-variants as AI
 use Rattle.layout.specs.Slots as layout
-use Rattle.refusal.specs.First.{answered}
 use Rattle.layout.specs.Slots.{idsEnd}
-use Rattle.layout.specs.Refusals.{reasonNumber, doneTold}
-use Rattle.layout.specs.Push.{State, over, onward, after, stepped}
+use Rattle.layout.specs.Push.{State, over, onward, after}
 use Rattle.layout.specs.Run.{act, done}
 use Rattle.layout.specs.Look.{pointIds, circleIds, arcSlotIds}
-use Rattle.store.specs.Store.{written}
 use Rattle.record.specs.Record.{mostRecords}
-use Rattle.record.specs.Kinds.{assigned, a-round, kindAt, Rule, newPoint, newCircle, newArc, firstRule, lastRule}
+use Rattle.record.specs.Kinds.{kindAt, Rule, newPoint, newCircle, newArc, firstRule, lastRule}
 use Rattle.record.specs.Entry.{Label, Entry, entryAt, labelNo}
-use Rattle.index.specs.Labels.{kindNo, nameNo, same, within, labelled, lowestOr}
+use Rattle.index.specs.Labels.{kindNo, same, within, labelled, lowestOr}
 use Rattle.index.specs.Chains.{Chained}
 use Rattle.drawing.specs.Needs.{Shape, point, circle, arc}
 use Rattle.drawing.specs.Check.{countBelow, checkOf}
@@ -79,22 +78,23 @@ abbrev pub layoutAfter : Pushed → Layout → Layout
 layoutAfter (P.Good m next) l = m
 layoutAfter (P.Refused r) l = l
 
--- the state after entry i is pushed, if it is of a kind
-unfoldable pub pushedAt : List Entry → ℕ → ℕ → State → State
-pushedAt es kind i s = cond (eqb (kindNo es i) kind) (after (shapeFor es (shapeOf kind) (nameNo es i)) s) s
+-- the state after an entry is pushed, if it is of a kind
+unfoldable pub pushedAt : List Entry → ℕ → Entry → State → State
+pushedAt es kind e s = cond (eqb (e .kind) kind) (after (shapeFor es (shapeOf kind) (labelNo e 0)) s) s
 
--- the state after those of the first n entries that are of a kind are pushed
-unfoldable pub pushedBelow : List Entry → ℕ → ℕ → State → State
-pushedBelow es kind zero s = s
-pushedBelow es kind (suc i) s = pushedAt es kind i (pushedBelow es kind i s)
+-- the state after those of some entries that are of a kind are pushed
+unfoldable pub pushedAll : List Entry → ℕ → List Entry → State → State
+pushedAll es kind [] s = s
+pushedAll es kind (e ∷ fs) s = pushedAll es kind fs (pushedAt es kind e s)
 
--- the layout at the next stage
-abbrev pub step : Layout → Layout
-step l = answered reasonNumber (λ r. l) (doneTold l) (stepped l)
+-- the layout after `done`
+abbrev pub layoutThen : Stepped → Layout → Layout
+layoutThen (S.Good m) l = m
+layoutThen (S.Refused r) l = l
 
 -- the state after all shapes of a kind are pushed, at the next stage
 abbrev pub stage : List Entry → ℕ → State → State
-stage es kind s = act done (pushedBelow es kind (length es) s)
+stage es kind s = act done (pushedAll es kind es s)
 
 -- the state after all pushes
 unfoldable pub laid : List Entry → State → State
@@ -126,26 +126,17 @@ endsIn l suffix = cond (ltb (length l) (length suffix)) false (same (drop (lengt
 abbrev pub wholeSpan : List Entry → Label → Span
 wholeSpan es l = record { shape = shapeNo es l; first = 0; count = sizeBy (kindNo es (shapeNo es l)) }
 
--- x or y of a shape's center
+-- x or y of a point, or of the center of a circle or an arc
 abbrev pub centerSpan : List Entry → ℕ → Label → Span
 centerSpan es third l = record { shape = shapeNo es l; first = centerBy (kindNo es (shapeNo es l)) + axisAt third; count = 1 }
 
--- x or y of a point
-abbrev pub pointSpan : List Entry → ℕ → Label → Span
-pointSpan es third l = record { shape = shapeNo es l; first = axisAt third; count = 1 }
-
--- x or y of a point, or of the center that a dotted label names
-abbrev pub partSpan : List Entry → ℕ → Label → Span
-partSpan es third l = cond (endsIn l (bytes ".center")) (centerSpan es third (take (length l - 7) l)) (pointSpan es third l)
-
--- what a label names, by the code of its place in the table of kinds: where a label may be assigned, a part; where a circle or an arc
--- is due, its center; else the whole shape
-abbrev pub namingBy : ℕ → Naming
-namingBy code = byKind code assigned a-round part center whole
+-- a label without a center's suffix
+abbrev pub stemOf : Label → Label
+stemOf l = take (length l - cond (endsIn l (bytes ".center")) 7 0) l
 
 -- by what the label names, and the third byte of its rule
 unfoldable pub spanOf : List Entry → Naming → ℕ → Label → Span
-spanOf es part third l = partSpan es third l
+spanOf es part third l = centerSpan es third (stemOf l)
 spanOf es center third l = centerSpan es third l
 spanOf es whole third l = wholeSpan es l
 
@@ -192,20 +183,17 @@ rowIds es l ids e = flat (labelIds es l ids e) (e .labels)
 
 -- ---- rows
 
--- the bytes of the row of entry i
-unfoldable pub rowAt : List Entry → Layout → List ℕ → ℕ → List ℕ
-rowAt es l ids i =
-    let e = entryAt es i in
-    encodeRow (record { kind = e .kind; third = e .third; ids = rowIds es l ids e; bits = e .x })
+-- the bytes of the row of a rule
+unfoldable pub rowAt : List Entry → Layout → List ℕ → Entry → List ℕ
+rowAt es l ids e = encodeRow (record { kind = e .kind; third = e .third; ids = rowIds es l ids e; bits = e .x })
 
--- the bytes that entry i adds: those of its row, if it is a rule
-unfoldable pub rowIf : List Entry → Layout → List ℕ → ℕ → List ℕ
-rowIf es l ids i = cond (within firstRule lastRule (kindNo es i)) (rowAt es l ids i) []
+-- the bytes that an entry adds: those of its row, if it is a rule
+unfoldable pub rowIf : List Entry → Layout → List ℕ → Entry → List ℕ
+rowIf es l ids e = cond (within firstRule lastRule (e .kind)) (rowAt es l ids e) []
 
--- the rows of the rules among the first n entries
-unfoldable pub rowsBelow : List Entry → Layout → List ℕ → ℕ → List ℕ
-rowsBelow es l ids zero = []
-rowsBelow es l ids (suc i) = rowsBelow es l ids i ++ rowIf es l ids i
+-- the rows of all rules
+abbrev pub rowsBy : List Entry → Layout → List ℕ → List ℕ
+rowsBy es l ids = flat (rowIf es l ids) es
 
 -- ---- what the steps ask, and give
 
@@ -215,42 +203,36 @@ pub record RowTables (es : List Entry) (chains numbers : List ℕ) : Type 0 wher
   pub long : length es ≤ length numbers
   pub numbered : EachBelow (length es) (λ i. getD numbers i 0 ≡ numberNo es i)
 
--- a label names a declared shape, and there is room for its ids behind the first m
-pub record Addable (es : List Entry) (l : Layout) (ids : List ℕ) (naming : Naming) (third : ℕ) (label : Label) (out : List ℕ) (m : ℕ) : Type 0 where
-  pub found : spanOf es naming third label .shape < length es
-  pub room : m + length (spanIds es l ids (spanOf es naming third label)) ≤ length out
+-- a span is that of a declared shape, and there is room for its ids behind the first m
+pub record Addable (es : List Entry) (s : Span) (out : List ℕ) (m : ℕ) : Type 0 where
+  pub found : s .shape < length es
+  pub room : m + s .count ≤ length out
 
--- ids put behind the first m of a list, and how many there are then
+-- ids, or bytes, put behind the first m of a list, and how many there are then
 pub record Added (ids was : List ℕ) (m n : ℕ) (now : List ℕ) : Type 0 where
   pub count-is : n ≡ m + length ids
   pub list-is : now ≡ over was m ids
 
--- entry i has as many labels as its kind, each names a declared shape, and their ids are no more than eight
-pub record Sayable (es : List Entry) (l : Layout) (ids : List ℕ) (i : ℕ) : Type 0 where
-  pub inside : i < length es
-  pub count : length (entryAt es i .labels) ≡ kindAt (kindNo es i) .labels
-  pub found : EachBelow (length (entryAt es i .labels)) (λ q. spanOf es (namingOf (kindNo es i)) (entryAt es i .third) (labelNo (entryAt es i) q) .shape < length es)
-  pub fits : length (rowIds es l ids (entryAt es i)) ≤ mostIds
+-- a rule has as many labels as its kind, each names a declared shape, and their ids are no more than eight
+pub record Sayable (es : List Entry) (l : Layout) (ids : List ℕ) (e : Entry) : Type 0 where
+  pub count : length (e .labels) ≡ kindAt (e .kind) .labels
+  pub found : EachBelow (length (e .labels)) (λ q. spanOf es (namingOf (e .kind)) (e .third) (labelNo e q) .shape < length es)
+  pub fits : length (rowIds es l ids e) ≤ mostIds
 
 -- how many ids there are, and a list that begins with them
 pub record Begins (ids was : List ℕ) (n : ℕ) (now : List ℕ) : Type 0 where
   pub count-is : n ≡ length ids
   pub list-is : now ≡ onto was ids
 
--- entry i can be said, if it is a rule, and there is room for its row at a place
-pub record Writing (es : List Entry) (l : Layout) (ids : List ℕ) (i : ℕ) (rows : List ℕ) (at : ℕ) : Type 0 where
-  pub sayable : Rule (kindNo es i) → Sayable es l ids i
-  pub room : at + length (rowIf es l ids i) ≤ length rows
-
--- its row is written, and the place is behind it
-pub record Wrote (es : List Entry) (l : Layout) (ids : List ℕ) (i : ℕ) (rows : List ℕ) (at then : ℕ) (rows′ : List ℕ) : Type 0 where
-  pub place : then ≡ at + length (rowIf es l ids i)
-  pub rows-are : rows′ ≡ written rows at (rowIf es l ids i)
+-- an entry can be said, if it is a rule, and there is room for its row at a place
+pub record Writing (es : List Entry) (l : Layout) (ids : List ℕ) (e : Entry) (rows : List ℕ) (at : ℕ) : Type 0 where
+  pub sayable : Rule (e .kind) → Sayable es l ids e
+  pub room : at + length (rowIf es l ids e) ≤ length rows
 
 -- each rule can be said, and there is room for all rows
 pub record Writable (es : List Entry) (l : Layout) (ids rows : List ℕ) : Type 0 where
-  pub each : (i : ℕ) → i < length es → Rule (kindNo es i) → Sayable es l ids i
-  pub room : length (rowsBelow es l ids (length es)) ≤ length rows
+  pub each : EachBelow (length es) (λ i. Rule (kindNo es i) → Sayable es l ids (entryAt es i))
+  pub room : length (rowsBy es l ids) ≤ length rows
 
 -- a layout and two slices are those of a state
 pub record Slotted (s : State) (l : Layout) (ids : List ℕ) (values : List Float) : Type 0 where

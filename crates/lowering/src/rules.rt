@@ -9,7 +9,8 @@ ghost use Rattle.index.specs.Labels.{drawn};
 ghost use Rattle.layout.specs.Push.{over};
 ghost use Rattle.row.specs.Row.{mostIds};
 ghost use Rattle.lowering.specs.Lower.{onto};
-ghost use Rattle.lowering.specs.Steps.{pointSix, circleSix, arcSix, sixOf, RowTables, namingBy, spanOf, spanIds, Addable, Added, Sayable, Begins, rowIds, rowAt, Writing, Wrote, Writable, rowsBelow};
+ghost use Rattle.lowering.specs.Rows.{namingOf};
+ghost use Rattle.lowering.specs.Steps.{pointSix, circleSix, arcSix, sixOf, RowTables, spanOf, spanIds, Addable, Added, Sayable, Begins, rowIds, rowAt, rowIf, Writing, Writable, rowsBy};
 use crate::spans::number;
 use crate::spans::span_of;
 use index::CHAINS;
@@ -27,7 +28,6 @@ use record::kinds::FIRST_RULE;
 use record::kinds::KINDS;
 use record::kinds::LABELS;
 use record::kinds::LAST_RULE;
-use record::kinds::NEEDS;
 use record::kinds::NEW_ARC;
 use record::kinds::NEW_CIRCLE;
 use record::kinds::NEW_POINT;
@@ -105,8 +105,7 @@ fn wide(x: u16) -> usize
     x as usize
 }
 
-// Puts the ids of what a label names, by the code of its place and its rule's third byte, behind the first m, and tells how many they
-// are then.
+// Puts the ids of what a label names, by its rule's kind and third byte, behind the first m, and tells how many they are then.
 fn add_label(
     text: &[u8],
     records: &[u8],
@@ -114,16 +113,16 @@ fn add_label(
     numbers: &[u16],
     l: Layout,
     ids: &[u32],
-    code: u8,
+    kind: u8,
     third: u8,
     label: &[u8],
     out: &mut [u32],
     m: usize,
 ) -> usize
-    requires { ⌜ RowTables (drawn (now text) (now records)) (now chains) (now numbers) × Addable (drawn (now text) (now records)) l (now ids) (namingBy code) third (now label) (now out) m ⌝ }
-    ensures { λ r. ⌜ Added (spanIds (drawn (now (text .entry)) (now (records .entry))) l (now (ids .entry)) (spanOf (drawn (now (text .entry)) (now (records .entry))) (namingBy code) third (now (label .entry)))) (now (out .entry)) m r (now (out .exit)) ⌝ }
+    requires { ⌜ RowTables (drawn (now text) (now records)) (now chains) (now numbers) × Addable (drawn (now text) (now records)) (spanOf (drawn (now text) (now records)) (namingOf kind) third (now label)) (now out) m ⌝ }
+    ensures { λ r. ⌜ Added (spanIds (drawn (now (text .entry)) (now (records .entry))) l (now (ids .entry)) (spanOf (drawn (now (text .entry)) (now (records .entry))) (namingOf kind) third (now (label .entry)))) (now (out .entry)) m r (now (out .exit)) ⌝ }
 {
-    let span = span_of(text, records, chains, code, third, label);
+    let span = span_of(text, records, chains, kind, third, label);
     let shape = span.shape;
     let number = wide(numbers[shape]);
     let six = six_of(l, ids, kind_at(records, shape), number);
@@ -143,7 +142,7 @@ fn row_ids(
     i: usize,
     out: &mut [u32],
 ) -> usize
-    requires { ⌜ (now kinds ≡ table) × RowTables (drawn (now text) (now records)) (now chains) (now numbers) × Sayable (drawn (now text) (now records)) l (now ids) i × (length (now out) ≡ mostIds) ⌝ }
+    requires { ⌜ (now kinds ≡ table) × RowTables (drawn (now text) (now records)) (now chains) (now numbers) × Sayable (drawn (now text) (now records)) l (now ids) (entryAt (drawn (now text) (now records)) i) × (length (now out) ≡ mostIds) ⌝ }
     ensures { λ r. ⌜ Begins (rowIds (drawn (now (text .entry)) (now (records .entry))) l (now (ids .entry)) (entryAt (drawn (now (text .entry)) (now (records .entry))) i)) (now (out .entry)) r (now (out .exit)) ⌝ }
 {
     let r = decode_record(records, i);
@@ -154,7 +153,6 @@ fn row_ids(
     let mut q = 0;
     while q < n {
         let label = label_at(text, records, i, q);
-        let code = look(kinds, kind, NEEDS + q);
         m = add_label(
             text,
             records,
@@ -162,7 +160,7 @@ fn row_ids(
             numbers,
             l,
             ids,
-            code,
+            kind,
             third,
             label,
             out,
@@ -184,8 +182,8 @@ fn row_at(
     ids: &[u32],
     i: usize,
 ) -> [u8; 44]
-    requires { ⌜ (now kinds ≡ table) × RowTables (drawn (now text) (now records)) (now chains) (now numbers) × Sayable (drawn (now text) (now records)) l (now ids) i ⌝ }
-    ensures { λ r. ⌜ r ≡ rowAt (drawn (now (text .entry)) (now (records .entry))) l (now (ids .entry)) i ⌝ }
+    requires { ⌜ (now kinds ≡ table) × RowTables (drawn (now text) (now records)) (now chains) (now numbers) × Sayable (drawn (now text) (now records)) l (now ids) (entryAt (drawn (now text) (now records)) i) ⌝ }
+    ensures { λ r. ⌜ r ≡ rowAt (drawn (now (text .entry)) (now (records .entry))) l (now (ids .entry)) (entryAt (drawn (now (text .entry)) (now (records .entry))) i) ⌝ }
 {
     let mut out = [0u32; 8];
     let m = row_ids(kinds, text, records, chains, numbers, l, ids, i, &mut out);
@@ -212,16 +210,16 @@ fn write_row(
     rows: &mut [u8],
     at: usize,
 ) -> usize
-    requires { ⌜ (now kinds ≡ table) × RowTables (drawn (now text) (now records)) (now chains) (now numbers) × Writing (drawn (now text) (now records)) l (now ids) i (now rows) at ⌝ }
-    ensures { λ r. ⌜ Wrote (drawn (now (text .entry)) (now (records .entry))) l (now (ids .entry)) i (now (rows .entry)) at r (now (rows .exit)) ⌝ }
+    requires { ⌜ (now kinds ≡ table) × RowTables (drawn (now text) (now records)) (now chains) (now numbers) × Writing (drawn (now text) (now records)) l (now ids) (entryAt (drawn (now text) (now records)) i) (now rows) at ⌝ }
+    ensures { λ r. ⌜ Added (rowIf (drawn (now (text .entry)) (now (records .entry))) l (now (ids .entry)) (entryAt (drawn (now (text .entry)) (now (records .entry))) i)) (now (rows .entry)) at r (now (rows .exit)) ⌝ }
 {
     let kind = kind_at(records, i);
-    if (kind < FIRST_RULE) | (LAST_RULE < kind) {
-        return at;
+    if (FIRST_RULE <= kind) & (kind <= LAST_RULE) {
+        let row = row_at(kinds, text, records, chains, numbers, l, ids, i);
+        put(rows, at, &row);
+        return at + ROW;
     }
-    let row = row_at(kinds, text, records, chains, numbers, l, ids, i);
-    put(rows, at, &row);
-    at + ROW
+    at
 }
 
 // Writes the rows of all rules, in order.
@@ -236,7 +234,7 @@ fn write_rows(
     rows: &mut [u8],
 )
     requires { ⌜ (now kinds ≡ table) × RowTables (drawn (now text) (now records)) (now chains) (now numbers) × Writable (drawn (now text) (now records)) l (now ids) (now rows) ⌝ }
-    ensures { λ _. ⌜ now (rows .exit) ≡ onto (now (rows .entry)) (rowsBelow (drawn (now (text .entry)) (now (records .entry))) l (now (ids .entry)) (length (drawn (now (text .entry)) (now (records .entry))))) ⌝ }
+    ensures { λ _. ⌜ now (rows .exit) ≡ onto (now (rows .entry)) (rowsBy (drawn (now (text .entry)) (now (records .entry))) l (now (ids .entry))) ⌝ }
 {
     let n = records.len() / SIZE;
     let mut at = 0;
@@ -250,7 +248,7 @@ fn write_rows(
 // Writes the rows of a drawing by the ids of its layout.
 pub(crate) fn fill_rows(text: &[u8], records: &[u8], l: Layout, ids: &[u32], rows: &mut [u8])
     requires { ⌜ (length (drawn (now text) (now records)) ≤ mostRecords) × Writable (drawn (now text) (now records)) l (now ids) (now rows) ⌝ }
-    ensures { λ _. ⌜ now (rows .exit) ≡ onto (now (rows .entry)) (rowsBelow (drawn (now (text .entry)) (now (records .entry))) l (now (ids .entry)) (length (drawn (now (text .entry)) (now (records .entry))))) ⌝ }
+    ensures { λ _. ⌜ now (rows .exit) ≡ onto (now (rows .entry)) (rowsBy (drawn (now (text .entry)) (now (records .entry))) l (now (ids .entry))) ⌝ }
 {
     let kinds = KINDS;
     let mut numbers = [0u16; MOST];

@@ -5,13 +5,14 @@ ghost use mathlib.Core.List.{_++_};
 ghost use lib.ListN.{length};
 ghost use Rattle.record.specs.Kinds.{pairGuess, numberGuess};
 ghost use Rattle.record.specs.Decode.{decodeAt};
+ghost use Rattle.record.specs.Entry.{entryAt};
 ghost use Rattle.record.specs.Record.{mostRecords};
 ghost use Rattle.index.specs.Labels.{drawn, labelled, lowestOr};
 ghost use Rattle.index.specs.Chains.{Chained};
 ghost use Rattle.layout.specs.Slots.{empty};
-ghost use Rattle.layout.specs.Push.{Push, state};
+ghost use Rattle.layout.specs.Push.{Push, state, doneOf};
 ghost use Rattle.layout.specs.Steps.{nextAfter};
-ghost use Rattle.lowering.specs.Steps.{pairFor, circleFor, arcFor, shapeFor, shapeOf, layoutAfter, pushedAt, pushedBelow, step as stepped, stage, laid, Slotted};
+ghost use Rattle.lowering.specs.Steps.{pairFor, circleFor, arcFor, shapeFor, shapeOf, layoutAfter, pushedAt, pushedAll, layoutThen, stage, laid, Slotted};
 use bits::from_bits;
 use index::CHAINS;
 use index::chain;
@@ -153,7 +154,7 @@ fn push_at(
     values: &mut [f64],
 ) -> Laid
     requires { ⌜ Chained (drawn (now text) (now records)) pairGuess numberGuess (now chains) ⌝ }
-    ensures { λ r. ⌜ state (r .layout) (r .next) (now (ids .exit)) (now (values .exit)) ≡ pushedAt (drawn (now (text .entry)) (now (records .entry))) kind i (state (last .layout) (last .next) (now (ids .entry)) (now (values .entry))) ⌝ }
+    ensures { λ r. ⌜ state (r .layout) (r .next) (now (ids .exit)) (now (values .exit)) ≡ pushedAt (drawn (now (text .entry)) (now (records .entry))) kind (entryAt (drawn (now (text .entry)) (now (records .entry))) i) (state (last .layout) (last .next) (now (ids .entry)) (now (values .entry))) ⌝ }
 {
     if kind_at(records, i) != kind {
         return last;
@@ -179,7 +180,7 @@ fn push_all(
     values: &mut [f64],
 ) -> Laid
     requires { ⌜ Chained (drawn (now text) (now records)) pairGuess numberGuess (now chains) ⌝ }
-    ensures { λ r. ⌜ state (r .layout) (r .next) (now (ids .exit)) (now (values .exit)) ≡ pushedBelow (drawn (now (text .entry)) (now (records .entry))) kind (length (drawn (now (text .entry)) (now (records .entry)))) (state (start .layout) (start .next) (now (ids .entry)) (now (values .entry))) ⌝ }
+    ensures { λ r. ⌜ state (r .layout) (r .next) (now (ids .exit)) (now (values .exit)) ≡ pushedAll (drawn (now (text .entry)) (now (records .entry))) kind (drawn (now (text .entry)) (now (records .entry))) (state (start .layout) (start .next) (now (ids .entry)) (now (values .entry))) ⌝ }
 {
     let n = records.len() / SIZE;
     let mut last = start;
@@ -193,7 +194,7 @@ fn push_all(
 
 // The next stage.
 fn step(l: Laid) -> Laid
-    ensures { λ r. ⌜ r ≡ record { layout = stepped (l .layout); next = l .next } ⌝ }
+    ensures { λ r. ⌜ r ≡ record { layout = layoutThen (doneOf (l .layout)) (l .layout); next = l .next } ⌝ }
 {
     let layout = l.layout;
     match layout.done() {

@@ -9,16 +9,17 @@ ghost use Rattle.record.specs.Decode.{countOf as records-in, decodeAt};
 ghost use Rattle.index.specs.Labels.{drawn};
 ghost use Rattle.index.specs.Chains.{Chained};
 ghost use Rattle.drawing.specs.Check.{countBelow};
-ghost use Rattle.lowering.specs.Steps.{sizeBy, centerBy, axisAt, endsIn, wholeSpan, centerSpan, partSpan, namingBy, spanOf};
+ghost use Rattle.lowering.specs.Steps.{sizeBy, centerBy, axisAt, endsIn, wholeSpan, centerSpan, stemOf, spanOf};
+ghost use Rattle.lowering.specs.Rows.{namingOf};
 use index::find;
 use index::labels::kind_at;
 use index::labels::same;
 use record::SIZE;
-use record::kinds::ASSIGNED;
+use record::kinds::FIX_CENTER;
+use record::kinds::FIX_COMPONENT;
 use record::kinds::NEW_ARC;
 use record::kinds::NEW_CIRCLE;
 use record::kinds::NEW_POINT;
-use record::kinds::ROUND;
 
 // The third byte for y.
 const Y: u8 = 2;
@@ -71,7 +72,7 @@ fn whole_span(text: &[u8], records: &[u8], chains: &[u16], label: &[u8]) -> Span
     }
 }
 
-// The x or y of a shape's center.
+// The x or y of a point, or of the center of a circle or an arc.
 fn center_span(text: &[u8], records: &[u8], chains: &[u16], third: u8, label: &[u8]) -> Span
     requires { ⌜ Chained (drawn (now text) (now records)) newPoint newArc (now chains) ⌝ }
     ensures { λ r. ⌜ r ≡ centerSpan (drawn (now (text .entry)) (now (records .entry))) third (now (label .entry)) ⌝ }
@@ -95,37 +96,31 @@ fn ends_in(label: &[u8], suffix: &[u8]) -> bool
     same(&label[n..], suffix)
 }
 
-// The x or y of a point, or of the center that a dotted label names.
+// The same by a label that names a point, or a center with its suffix.
 fn part_span(text: &[u8], records: &[u8], chains: &[u16], third: u8, label: &[u8]) -> Span
     requires { ⌜ Chained (drawn (now text) (now records)) newPoint newArc (now chains) ⌝ }
-    ensures { λ r. ⌜ r ≡ partSpan (drawn (now (text .entry)) (now (records .entry))) third (now (label .entry)) ⌝ }
+    ensures { λ r. ⌜ r ≡ centerSpan (drawn (now (text .entry)) (now (records .entry))) third (stemOf (now (label .entry))) ⌝ }
 {
-    if ends_in(label, b".center") {
-        let n = label.len() - 7;
-        return center_span(text, records, chains, third, &label[..n]);
-    }
-    Span {
-        shape: find(text, records, NEW_POINT, NEW_ARC, chains, label),
-        first: axis_at(third),
-        count: 1,
-    }
+    let suffix = either(ends_in(label, b".center"), 7, 0);
+    let n = label.len() - suffix;
+    center_span(text, records, chains, third, &label[..n])
 }
 
-// What a label names, by the code of its place in the table of kinds and the third byte of its rule.
+// What a label names, by the kind and the third byte of its rule.
 pub(crate) fn span_of(
     text: &[u8],
     records: &[u8],
     chains: &[u16],
-    code: u8,
+    kind: u8,
     third: u8,
     label: &[u8],
 ) -> Span
     requires { ⌜ Chained (drawn (now text) (now records)) newPoint newArc (now chains) ⌝ }
-    ensures { λ r. ⌜ r ≡ spanOf (drawn (now (text .entry)) (now (records .entry))) (namingBy code) third (now (label .entry)) ⌝ }
+    ensures { λ r. ⌜ r ≡ spanOf (drawn (now (text .entry)) (now (records .entry))) (namingOf kind) third (now (label .entry)) ⌝ }
 {
-    match code {
-        ASSIGNED => part_span(text, records, chains, third, label),
-        ROUND => center_span(text, records, chains, third, label),
+    match kind {
+        FIX_COMPONENT => part_span(text, records, chains, third, label),
+        FIX_CENTER => center_span(text, records, chains, third, label),
         _ => whole_span(text, records, chains, label),
     }
 }

@@ -1,7 +1,7 @@
 -- The tables that the code makes hold what they should, and slots and rows together are a drawing that is filled. Assumes nothing.
 use mathlib.Core.Path.{_≡_, sym, _∙_, ap}
 use mathlib.Core.List.{List}
-use Prim.Native.Nat.{ℕ, _≤_}
+use Prim.Native.Nat.{ℕ, _+_, _≤_}
 use lib.ListN.{length, getD}
 use lib.Ieee.{Float}
 use Rattle.refusal.specs.First.{EachBelow}
@@ -16,9 +16,9 @@ use Rattle.index.specs.Chains.{Chained}
 use Rattle.index.proofs.Drawn.{drawn-length, drawn-kind}
 use Rattle.drawing.specs.Check.{countBelow}
 use Rattle.drawing.proofs.Laws.{count-kinds}
-use Rattle.lowering.specs.Slots.{slots, layoutOf}
+use Rattle.lowering.specs.Slots.{slots, layoutOf, valuesOf}
 use Rattle.lowering.specs.Lower.{onto}
-use Rattle.lowering.specs.Steps.{laid, rowsBelow, RowTables, Writable, Slotted, Passing, Filled}
+use Rattle.lowering.specs.Steps.{laid, rowsBy, RowTables, Writable, Slotted, Passing, Filled}
 use Rattle.lowering.proofs.slots.Pushes.{laid-is}
 use Rattle.lowering.proofs.rows.Tied.{writable, rows-are}
 
@@ -39,19 +39,16 @@ tables-are text records chains numbers c long each = record {
 
 module _ (es : List Entry) (next : ℕ) (ids : List ℕ) (values : List Float) (rows : List ℕ) (p : Passing es next ids values rows)
     (l : Layout) (ids′ : List ℕ) (values′ : List Float) (s : Slotted (laid es (state empty next ids values)) l ids′ values′) where
-  layout-is : l ≡ layoutOf es
-  layout-is = s .layout-is ∙ laid-is es next ids values rows p .layout-is
-
-  ids-are : ids′ ≡ onto ids (onward next (length (slots es)))
-  ids-are = s .ids-are ∙ laid-is es next ids values rows p .ids-are
+  filled : Slotted (state (layoutOf es) (next + length (slots es)) (onto ids (onward next (length (slots es)))) (onto values (valuesOf es))) l ids′ values′
+  filled = rw (laid-is es next ids values rows p) at s
 
   pub then-writable : Writable es l ids′ rows
-  then-writable = rw (layout-is, ids-are) (writable es next ids values rows p)
+  then-writable = rw (filled .layout-is, filled .ids-are) (writable es next ids values rows p)
 
-  pub then-filled : (rows′ : List ℕ) → rows′ ≡ onto rows (rowsBelow es l ids′ (length es)) → Filled es next ids values rows l ids′ values′ rows′
+  pub then-filled : (rows′ : List ℕ) → rows′ ≡ onto rows (rowsBy es l ids′) → Filled es next ids values rows l ids′ values′ rows′
   then-filled rows′ e = record {
-    layout-is = layout-is;
-    ids-are = ids-are;
-    values-are = s .values-are ∙ laid-is es next ids values rows p .values-are;
-    rows-are = e ∙ rw (layout-is, ids-are) (ap (onto rows) (rows-are es next ids values rows p));
+    layout-is = filled .layout-is;
+    ids-are = filled .ids-are;
+    values-are = filled .values-are;
+    rows-are = e ∙ rw (filled .layout-is, filled .ids-are) (ap (onto rows) (rows-are es next ids values rows p));
   }

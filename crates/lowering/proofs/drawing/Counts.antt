@@ -123,12 +123,11 @@ module _ (es : List Entry) where
   slot-count = omega (arith, length-slots)
 
   -- the layout is a possible one
-  pub possible : length es ≤ layout.mostShapes → impossible (layoutOf es) ≡ false
-  possible h =
-      let few : (s : Shape) → howMany s es ≤ layout.mostShapes = λ s. omega (arith, h, count-le (kindNo es) (declaring s) (declaring s) (length es)) in
-      can-be (layoutOf es)
-      (record {
-        counts = record { points = few point; circles = few circle; arcs = few arc };
-        circles-late = λ h. omega arith;
-        arcs-late = λ h. omega arith;
-      })
+  module _ (h : length es ≤ layout.mostShapes) where
+    pub few-of : (s : Shape) → howMany s es ≤ layout.mostShapes
+    few-of s = omega (arith, h, count-le (kindNo es) (declaring s) (declaring s) (length es))
+
+    pub possible : impossible (layoutOf es) ≡ false
+    possible =
+        can-be (layoutOf es)
+        (record { counts = record { points = few-of point; circles = few-of circle; arcs = few-of arc }; circles-late = λ h. omega arith; arcs-late = λ h. omega arith })

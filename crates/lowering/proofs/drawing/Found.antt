@@ -6,7 +6,7 @@ use Prim.Native.Nat.{ℕ, zero, suc, _≤_, _<_}
 use native.Mathlib.Omega.{arith}
 use lib.ListN.{length}
 use Rattle.refusal.proofs.Says.{Says, says-so, says-and, refuted}
-use Rattle.record.specs.Kinds.{pairGuess, numberGuess, Declaration, Guess}
+use Rattle.record.specs.Kinds.{newPoint, newArc, pairGuess, numberGuess, Declaration, Guess}
 use Rattle.record.specs.Entry.{Label, Entry, entryAt}
 use Rattle.index.specs.Labels.{kindNo, nameNo, labelled, lowestOr}
 use Rattle.index.proofs.Laws.{says-same, says-within}
@@ -15,7 +15,7 @@ use Rattle.drawing.specs.Needs.{Shape, point, circle, arc, declaring, Part, par
 use Rattle.lowering.specs.Slots.{guessOf}
 use Rattle.lowering.specs.Demand.{Declares}
 use Rattle.ground.proofs.Pieces.{Each, each-has}
-use Rattle.lowering.proofs.drawing.Fine.{Fine, same-record}
+use Rattle.lowering.proofs.drawing.Fine.{Fine, declaration, same-record}
 
 -- ---- a search that one place alone passes
 
@@ -38,15 +38,14 @@ shape-of (suc (suc (suc zero))) d = (arc, refl)
 shape-of (suc (suc (suc (suc k)))) d = absurd (omega (arith, d .1))
 
 module _ (es : List Entry) (w : Fine es) where
-  -- a declared label is found among any kinds that its own is of
-  pub declared-found : (j : ℕ) (s : Shape) (low high : ℕ) → Declares es j s → 1 ≤ low → high ≤ 3 → low ≤ declaring s → declaring s ≤ high
-      → lowestOr (length es) (labelled es low high (nameNo es j)) ≡ j
-  declared-found j s low high d a b c e =
-      only-found (length es) (labelled es low high (nameNo es j)) j (d .inside)
-      (says-labelled es low high (nameNo es j) j .back ((omega (arith, d .kind-is, c), omega (arith, d .kind-is, e)), refl))
+  -- a declared label is found
+  pub declared-found : (j : ℕ) (s : Shape) → Declares es j s → lowestOr (length es) (labelled es newPoint newArc (nameNo es j)) ≡ j
+  declared-found j s d =
+      only-found (length es) (labelled es newPoint newArc (nameNo es j)) j (d .inside)
+      (says-labelled es newPoint newArc (nameNo es j) j .back (declaration s (kindNo es j) (d .kind-is), refl))
       (λ i h t.
-      let (r, name) = says-labelled es low high (nameNo es j) i .so t in
-      let (s′, k) = shape-of (kindNo es i) (omega (arith, r .0, a), omega (arith, r .1, b)) in
+      let (r, name) = says-labelled es newPoint newArc (nameNo es j) i .so t in
+      let (s′, k) = shape-of (kindNo es i) r in
       same-record es w i j s′ s (record { inside = h; kind-is = k }) d name)
 
   -- a guess is found by its label

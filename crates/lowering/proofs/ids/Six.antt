@@ -1,14 +1,13 @@
 -- What a label names lies among six ids, whatever the label, the layout and the ids are: by the cases of the steps. Assumes nothing.
-use mathlib.Core.Path.{_≡_, refl}
+use mathlib.Core.Path.{_≡_, refl, _∙_}
 use mathlib.Core.Bool.{Bool, true, false, cond}
 use mathlib.Core.List.{List}
 use Prim.Native.Nat.{ℕ, _+_, _≤_}
 use native.Mathlib.Omega.{arith}
 use lib.Dec.{eqb}
-use lib.ListN.{length, drop, length-drop}
+use lib.ListN.{length, take, drop, length-drop}
 use lib.Seq.{length-take-le}
 use Rattle.ground.proofs.Lists.{either-le}
-use Rattle.ground.specs.Words.{bytes}
 use Rattle.layout.specs.declared.Layout.{Layout}
 use Rattle.layout.specs.declared.PointIds.{PointIds}
 use Rattle.layout.specs.declared.PointIds.the-variants as PI
@@ -16,13 +15,14 @@ use Rattle.layout.specs.declared.CircleIds.{CircleIds}
 use Rattle.layout.specs.declared.CircleIds.the-variants as CI
 use Rattle.layout.specs.declared.ArcIds.{ArcIds}
 use Rattle.layout.specs.declared.ArcIds.the-variants as AI
+use Rattle.layout.specs.Push.{over}
 use Rattle.layout.specs.Look.{pointIds, circleIds, arcSlotIds}
 use Rattle.record.specs.Entry.{Label, Entry}
 use Rattle.index.specs.Labels.{kindNo}
 use Rattle.lowering.specs.declared.spans.Span.{Span}
 use Rattle.lowering.specs.Slots.{y-axis}
 use Rattle.lowering.specs.Rows.{Naming, whole, part, center}
-use Rattle.lowering.specs.Steps.{byKind, shapeNo, endsIn, centerSpan, pointSpan, spanOf, pointSix, circleSix, arcSix, sixOf, numberNo, spanIds}
+use Rattle.lowering.specs.Steps.{Added, byKind, shapeNo, stemOf, centerSpan, spanOf, pointSix, circleSix, arcSix, sixOf, numberNo, spanIds}
 
 -- what holds of three holds of the one that a number chooses
 by-kind : {A : Type 0} (P : A → Type 0) (kind m n : ℕ) (x y z : A) → P x → P y → P z → P (byKind kind m n x y z)
@@ -45,13 +45,9 @@ module _ (es : List Entry) (third : ℕ) (l : Label) where
   center-inside : (name : Label) → Inside (centerSpan es third name)
   center-inside name = omega (arith, axis-small, either-le (eqb (kindNo es (shapeNo es name)) 3) 4 0 4 (omega arith) (omega arith))
 
-  part-inside : (b : Bool) (name : Label) → Inside (cond b (centerSpan es third name) (pointSpan es third l))
-  part-inside true name = center-inside name
-  part-inside false name = omega (arith, axis-small)
-
   pub span-inside : (n : Naming) → spanOf es n third l .first + spanOf es n third l .count ≤ 6
   unfolding spanOf
-  span-inside part = part-inside (endsIn l (bytes ".center")) _
+  span-inside part = center-inside (stemOf l)
   span-inside center = center-inside l
   span-inside whole = by-kind (λ (n : ℕ). 0 + n ≤ 6) (kindNo es (shapeNo es l)) 1 2 2 3 6 (omega arith) (omega arith) (omega arith)
 
@@ -85,3 +81,11 @@ span-length es l ids s h =
 -- so has what a rule names by a label
 pub label-length : (es : List Entry) (l : Layout) (ids : List ℕ) (n : Naming) (third : ℕ) (name : Label) → length (spanIds es l ids (spanOf es n third name)) ≡ spanOf es n third name .count
 label-length es l ids n third name = span-length es l ids (spanOf es n third name) (span-inside es third name n)
+
+-- put behind the first m of a list
+pub added : (es : List Entry) (l : Layout) (ids : List ℕ) (n : Naming) (third : ℕ) (name : Label) (s : Span) → s ≡ spanOf es n third name
+    → (six : List ℕ) (k number : ℕ) → six ≡ sixOf l ids k number → k ≡ kindNo es (s .shape) → number ≡ numberNo es (s .shape)
+    → (was : List ℕ) (m : ℕ) (now : List ℕ) → now ≡ over was m (take (s .count) (drop (s .first) six)) → Added (spanIds es l ids (spanOf es n third name)) was m (m + s .count) now
+unfolding spanIds
+added es l ids n third name s es-is six k number e6 ek en was m now e =
+    rw (← es-is) (record { count-is = rw (span-length es l ids s (rw es-is (span-inside es third name n))) refl; list-is = e ∙ rw (e6, ek, en) refl })

@@ -1,33 +1,26 @@
--- What a rule's label names, step by step as the code finds it: by the table of kinds, the whole shape, a part or the center; by the chains of the
+-- What a rule's label names, step by step as the code finds it: by its rule's kind, the whole shape, a part or the center; by the chains of the
 -- declarations, the shape's record; by its kind, the slots. Assumes nothing.
-use mathlib.Core.Path.{_≡_, refl, sym, ap, _∙_}
+use mathlib.Core.Path.{_≡_, refl, sym, _∙_}
 use mathlib.Core.Bool.{Bool, true, false, cond}
 use mathlib.Core.List.{List}
 use Prim.Native.Nat.{ℕ, _+_, _-_, _≤_, _<_}
-use native.Mathlib.Decide.{decLt}
 use native.Mathlib.Omega.{arith}
 use native.Mathlib.Numerals.{add-one}
-use lib.ListN.{length, getD, set, take, drop, length-set, length-drop, List·getD-eq-default}
+use lib.ListN.{length, getD, set, take, drop, length-set, length-drop}
 use lib.Seq.{paste, paste-zero, paste-suc, getD-take, getD-drop, length-take-le, take-length}
 use lib.Dec.{ltb, eqb}
-use borrow.Author.Tests.{lt-ltb, le-ltb, ltb-false, eqb-true}
+use borrow.Author.Tests.{lt-ltb, le-ltb, ltb-false}
 use Rattle.ground.proofs.Lists.{either-le}
-use Rattle.refusal.specs.First.{allBelow}
-use Rattle.refusal.proofs.Says.{says-so, says-all}
 use Rattle.layout.specs.Push.{over}
-use Rattle.ground.specs.Words.{bytes}
-use Rattle.record.specs.Kinds.{kinds, noKind, kindAt, newPoint, newArc}
+use Rattle.record.specs.Kinds.{newPoint, newArc}
 use Rattle.record.specs.Decode.{decodeAt}
 use Rattle.record.specs.Entry.{Label}
 use Rattle.index.specs.Labels.{drawn, same, kindNo}
 use Rattle.index.specs.Chains.{Chained, walkOf}
 use Rattle.index.proofs.Drawn.{drawn-kind}
 use Rattle.index.proofs.Found.{found}
-use Rattle.drawing.specs.Needs.{codeAt}
 use Rattle.lowering.specs.Slots.{y-axis}
-use Rattle.lowering.specs.Rows.{Naming, whole, part, center, namingOf}
-use Rattle.lowering.specs.declared.spans.Span.{Span}
-use Rattle.lowering.specs.Steps.{byKind, shapeNo, sizeBy, centerBy, axisAt, endsIn, wholeSpan, centerSpan, pointSpan, partSpan, namingBy}
+use Rattle.lowering.specs.Steps.{shapeNo, sizeBy, centerBy, axisAt, endsIn, wholeSpan, centerSpan}
 
 -- ---- the end of a label
 
@@ -38,47 +31,14 @@ module _ (l suffix : Label) where
   pub ends-long : length suffix ≤ length l → endsIn l suffix ≡ same (drop (length l - length suffix) l) suffix
   ends-long h = rw (le-ltb (length l) (length suffix) h) refl
 
-  -- a label that ends in another is as long at least
-  pub ends-length : endsIn l suffix ≡ true → length suffix ≤ length l
-  ends-length e = ltb-false (length l) (length suffix) (go (ltb (length l) (length suffix)) refl e)
+  -- what is taken off a label that ends in another is no longer than it
+  pub ends-length : cond (endsIn l suffix) (length suffix) 0 ≤ length l
+  ends-length = go (ltb (length l) (length suffix)) refl (same (drop (length l - length suffix) l) suffix)
     where
-      go : (t : Bool) → ltb (length l) (length suffix) ≡ t → cond t false (same (drop (length l - length suffix) l) suffix) ≡ true → ltb (length l) (length suffix) ≡ false
-      go true e f = let z : _≡_ {A = ℕ} 0 1 = cc in absurd (omega arith)
-      go false e f = e
-
--- ---- what a label's place names
-
--- a number for what is named
-abbrev tagOf : Naming → ℕ
-tagOf part = 1
-tagOf center = 2
-tagOf whole = 0
-
-tag-back : (n : Naming) → byKind (tagOf n) 1 2 part center whole ≡ n
-tag-back part = refl
-tag-back center = refl
-tag-back whole = refl
-
--- the code of a kind's label place says what its rule names
-abbrev saysSo : ℕ → ℕ → Bool
-saysSo k q = eqb (tagOf (namingBy (codeAt k q))) (tagOf (namingOf k))
-
--- so do those of all its labels: one computed test of the table
-abbrev allSay : ℕ → Bool
-allSay k = allBelow (kindAt k .labels) (saysSo k)
-
-all-say : (k : ℕ) → allSay k ≡ true
-all-say k =
-    elim (decLt k (length kinds)) [
-      | yes h ↦ says-all allSay (λ n. allSay n ≡ true) (λ n. says-so) (length kinds) .so refl k h
-      | no f ↦ (let past : length kinds ≤ k = omega (arith, f) in rw (List·getD-eq-default kinds noKind past) refl)
-    ]
-
-pub naming-is : (k q : ℕ) → q < kindAt k .labels → namingBy (codeAt k q) ≡ namingOf k
-naming-is k q h =
-    let same-tag : tagOf (namingBy (codeAt k q)) ≡ tagOf (namingOf k) =
-    eqb-true (tagOf (namingBy (codeAt k q))) (tagOf (namingOf k)) (says-all (saysSo k) (λ j. saysSo k j ≡ true) (λ j. says-so) (kindAt k .labels) .so (all-say k) q h) in
-    sym (tag-back (namingBy (codeAt k q))) ∙ ap (λ (n : ℕ). byKind n 1 2 part center whole) same-tag ∙ tag-back (namingOf k)
+      go : (t : Bool) → ltb (length l) (length suffix) ≡ t → (b : Bool) → cond (cond t false b) (length suffix) 0 ≤ length l
+      go true e b = omega arith
+      go false e true = ltb-false (length l) (length suffix) e
+      go false e false = omega arith
 
 -- ---- spans
 
@@ -97,20 +57,9 @@ module _ (text records chains : List ℕ) (c : Chained (drawn text records) newP
       → record { shape = shape; first = at + axis; count = 1 } ≡ centerSpan (drawn text records) third l
   span-center k at third axis ek ec ea = rw (ec, ea, kind-is k ek, shape-is) refl
 
-  pub span-point : (third axis : ℕ) → axis ≡ axisAt third → record { shape = shape; first = axis; count = 1 } ≡ pointSpan (drawn text records) third l
-  span-point third axis ea = rw (ea, shape-is) refl
-
 -- where a center's x or y stands is a small number
 pub center-small : (kind third : ℕ) → centerBy kind + axisAt third ≤ 5
 center-small kind third = omega (arith, either-le (eqb kind 3) 4 0 4 (omega arith) (omega arith), either-le (eqb third y-axis) 1 0 1 (omega arith) (omega arith))
-
--- a center, or a point
-module _ (text records : List ℕ) (third : ℕ) (l : Label) (s : Span) (t : Bool) (ends : t ≡ endsIn l (bytes ".center")) where
-  pub part-center : t ≡ true → s ≡ centerSpan (drawn text records) third (take (length l - 7) l) → s ≡ partSpan (drawn text records) third l
-  part-center e es = es ∙ rw (sym ends ∙ e) refl
-
-  pub part-point : t ≡ false → s ≡ pointSpan (drawn text records) third l → s ≡ partSpan (drawn text records) third l
-  part-point e es = es ∙ rw (sym ends ∙ e) refl
 
 -- ---- ids put behind others
 

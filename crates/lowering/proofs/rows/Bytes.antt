@@ -1,23 +1,22 @@
 -- The rows of a drawing as bytes: each takes 44, and the row of a rule stands behind those of the rules before it. Assumes nothing.
 use mathlib.Core.Path.{_≡_, refl, ap, _∙_}
-use mathlib.Core.Bool.{Bool, true, false, cond}
-use mathlib.Core.List.{List, [], _∷_, _++_, map, map-append, append-nil}
+use mathlib.Core.List.{List, [], _++_}
 use Prim.Native.Nat.{ℕ, suc, _+_, _*_, _^_, _≤_, _<_}
 use native.Mathlib.Decide.{decLt}
 use native.Mathlib.Omega.{arith}
 use lib.ListN.{List·getD-eq-default, length, getD, take, drop, length-map}
-use lib.Seq.{take-length, getD-at}
+use lib.Seq.{getD-at}
 use Rattle.layout.specs.Slots.{idsEnd}
 use Rattle.record.specs.Kinds.{Rule, firstRule, lastRule}
 use Rattle.record.specs.Entry.{Label, Entry, noEntry, entryAt}
-use Rattle.index.specs.Labels.{kindNo, within}
+use Rattle.index.specs.Labels.{kindNo}
 use Rattle.ground.specs.Lists.{flat}
 use Rattle.lowering.specs.Slots.{slots}
 use Rattle.row.proofs.Back.{length-row, id-read}
 use Rattle.row.specs.Row.{Row, rowBytes, encodeRow, encodeRows, rowNo}
 use Rattle.lowering.specs.Rows.{namingOf, names, namedIds, rowFor, rulesOf, rowsOf}
 use Rattle.lowering.specs.Demand.{RowOf, rulesBefore}
-use Rattle.ground.proofs.Pieces.{Each, each-map, each-at, each-of, each-flat, flat-append, length-flat, piece-at, getD-map, picks-suc, picks-around}
+use Rattle.ground.proofs.Pieces.{Each, each-map, each-at, each-of, each-flat, length-flat, piece-at, getD-map, picks-around}
 use Rattle.index.proofs.Laws.{says-within}
 use Rattle.lowering.proofs.drawing.Counts.{rules-pick, rules-before, picks-inside}
 use Rattle.lowering.proofs.ids.Tested.{ids-within}
@@ -36,27 +35,6 @@ module _ (es : List Entry) (i : ℕ) (h : i < length es) (u : Rule (kindNo es i)
       ∙ getD-at (rulesOf (take i es)) (entryAt es i) (rulesOf (drop (suc i) es)) noEntry (rulesBefore es i) (rules-before es i (omega (arith, h)))
 
 -- ---- all rows
-
--- the rows of the first records, one record more
-pub rows-more : (es : List Entry) (next i : ℕ) → i < length es
-    → encodeRows (map (rowFor es next) (rulesOf (take (suc i) es)))
-    ≡ encodeRows (map (rowFor es next) (rulesOf (take i es))) ++ cond (within firstRule lastRule (kindNo es i)) (encodeRow (rowFor es next (entryAt es i))) []
-rows-more es next i h =
-    let f = rowFor es next in
-    let more = cond (within firstRule lastRule (kindNo es i)) (entryAt es i ∷ []) [] in
-    ap (λ (l : List Entry). encodeRows (map f l)) (picks-suc _ _ _ rules-pick es i noEntry h)
-    ∙ ap encodeRows (map-append f (rulesOf (take i es)) more)
-    ∙ flat-append encodeRow (map f (rulesOf (take i es))) (map f more)
-    ∙ ap (λ (l : List ℕ). encodeRows (map f (rulesOf (take i es))) ++ l) (go (within firstRule lastRule (kindNo es i)))
-  where
-    go : (b : Bool) → encodeRows (map (rowFor es next) (cond b (entryAt es i ∷ []) [])) ≡ cond b (encodeRow (rowFor es next (entryAt es i))) []
-    go true = append-nil (encodeRow (rowFor es next (entryAt es i)))
-    go false = refl
-
--- and of all of them
-pub rows-end : (es : List Entry) (next : ℕ) → encodeRows (map (rowFor es next) (rulesOf (take (length es) es))) ≡ encodeRows (rowsOf es next)
-unfolding rowsOf
-rows-end es next = ap (λ (l : List Entry). encodeRows (map (rowFor es next) (rulesOf l))) (take-length es)
 
 -- the ids of a row are given ones
 pub ids-given : (es : List Entry) (next : ℕ) (e : Entry) → next + length (slots es) ≤ idsEnd → Each (λ (n : ℕ). n < idsEnd) (flat (namedIds es next e) (e .labels))

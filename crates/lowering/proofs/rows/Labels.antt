@@ -2,16 +2,17 @@
 -- ids it comes to. Assumes nothing.
 use mathlib.Core.Path.{_≡_, refl, sym, ap, _∙_}
 use mathlib.Core.Logic.{inl, inr}
-use mathlib.Core.Bool.{Bool, true, false, _||_, true≢false}
+use mathlib.Core.Bool.{Bool, true, false, _||_, cond, true≢false}
 use mathlib.Core.List.{List, [], _∷_, _++_, append-nil}
-use Prim.Native.Nat.{ℕ, zero, suc, _+_, _≤_, _<_}
+use Prim.Native.Nat.{ℕ, zero, suc, _+_, _-_, _≤_, _<_}
 use native.Mathlib.Omega.{arith}
 use lib.Dec.{eqb, ltb, leb}
-use lib.ListN.{length, take}
-use borrow.Author.Tests.{eqb-true, le-ltb, leb-true}
+use lib.ListN.{length, getD, drop, length-append}
+use lib.Seq.{take-at, take-all, drop-at, getD-drop}
+use borrow.Author.Tests.{eqb-true, le-ltb, ltb-false, leb-true}
 use Rattle.ground.specs.Words.{bytes}
 use Rattle.refusal.specs.First.{allBelow}
-use Rattle.refusal.proofs.Says.{says-so, says-all}
+use Rattle.refusal.proofs.Says.{refuted, says-so, says-all}
 use Rattle.layout.specs.Push.{onward}
 use Rattle.layout.proofs.Onward.{length-onward}
 use Rattle.record.specs.Kinds.{kindAt, Rule, fixComponent, fixCenter}
@@ -20,18 +21,20 @@ use Rattle.record.specs.Sound.{Sound}
 use Rattle.index.specs.Labels.{kindNo, nameNo, same}
 use Rattle.index.proofs.Laws.{says-same}
 use Rattle.drawing.specs.Needs as needs
-use needs.{Shape, point, circle, arc, Need, needAt}
+use needs.{Shape, point, circle, arc, declaring, Need, needAt}
 use Rattle.drawing.specs.Faults.{Named, Meets}
-use Rattle.ground.specs.Lists.{flat, sumTo}
+use Rattle.ground.specs.Lists.{flat}
 use Rattle.lowering.specs.Slots.{slots, size, firstSlot}
 use Rattle.row.specs.Row.{mostIds}
-use Rattle.lowering.specs.Rows.{whole, part, center, namingOf, names, namedIds}
+use Rattle.lowering.specs.Rows.{part, namingOf, names, idsWhere, namedIds}
 use Rattle.lowering.specs.Offsets.{componentAt, widthOf, idsAt, idsOfKind}
 use Rattle.lowering.specs.Demand.{slotAt, Declares, Carries}
-use Rattle.ground.proofs.Pieces.{sum-to, sum-flat}
-use Rattle.lowering.proofs.drawing.Fine.{Fine}
+use Rattle.ground.proofs.Pieces.{sum-flat}
+use Rattle.lowering.specs.Steps.{sizeBy, endsIn, stemOf, centerSpan, spanOf}
+use Rattle.lowering.proofs.drawing.Fine.{Fine, NoDot, plain-no-dot, plain-name}
+use Rattle.lowering.proofs.drawing.Found.{declared-found}
 use Rattle.lowering.proofs.ids.Tested.{ids-named, ids-has, ids-rise}
-use Rattle.lowering.proofs.ids.Named.{says-names, PairPart, the-point, circle-center, arc-center, XY, whole-ids, part-ids, center-ids}
+use Rattle.lowering.proofs.ids.Named.{says-names, PairPart, the-point, circle-center, arc-center, XY, the-x, the-y, stands, ids-whole, ids-part}
 
 -- ---- what the table needs
 
@@ -61,7 +64,10 @@ pub few-ids : (k : ℕ) → Rule k → idsOfKind k ≤ mostIds
 few-ids k u = leb-true (idsOfKind k) mostIds (says-all fewIds (λ n. fewIds n ≡ true) (λ n. says-so) 24 .so refl k (omega (arith, u .1)))
 
 -- the shape that is declared where such a label is met
-bare-met : (es : List Entry) (n : Need) (l : Label) → bare n ≡ true → Meets es n l → (j : ℕ) × (s : Shape) × Declares es j s × (nameNo es j ≡ l) × (size s ≡ widthOf n)
+abbrev BareMet : List Entry → Need → Label → Type 0
+BareMet es n l = (j : ℕ) × (s : Shape) × Declares es j s × (nameNo es j ≡ l) × (size s ≡ widthOf n)
+
+bare-met : (es : List Entry) (n : Need) (l : Label) → bare n ≡ true → Meets es n l → BareMet es n l
 bare-met es [] l b m = absurd m
 bare-met es (c ∷ []) l b (inl (j, h, (k, q))) =
     let e : c .suffix ≡ [] = says-same (c .suffix) [] .so b in
@@ -69,92 +75,130 @@ bare-met es (c ∷ []) l b (inl (j, h, (k, q))) =
 bare-met es (c ∷ []) l b (inr m) = absurd m
 bare-met es (c ∷ d ∷ cs) l b m = absurd (true≢false (sym b))
 
+-- ---- labels that end in a suffix
+
+-- a label with a center's suffix
+ends-in-own : (a c : Label) → endsIn (a ++ c) c ≡ true
+ends-in-own a c =
+    let n : length (a ++ c) - length c ≡ length a = omega (arith, length-append a c) in
+    rw (le-ltb (length (a ++ c)) (length c) (omega (arith, length-append a c)), n, drop-at a c (length a) refl) (says-same c c .back refl)
+
+-- one without a dot
+no-center : (a : Label) → NoDot a → endsIn a (bytes ".center") ≡ false
+no-center a n = go (ltb (length a) 7) refl
+  where
+    go : (b : Bool) → ltb (length a) 7 ≡ b → cond b false (same (drop (length a - 7) a) (bytes ".center")) ≡ false
+    go true e = refl
+    go false e =
+        refuted (says-same (drop (length a - 7) a) (bytes ".center"))
+        (λ q. n (length a - 7 + 0) (omega (arith, ltb-false (length a) 7 e)) (sym (getD-drop (length a - 7) a 0 0) ∙ ap (λ (z : Label). getD z 0 0) q))
+
+stem-is : (a : Label) → NoDot a → {s : Shape} {u : Label} → PairPart s u → stemOf (a ++ u) ≡ a
+stem-is a n the-point = rw (append-nil, no-center a n) (take-all (length a - 0) a (omega arith))
+stem-is a n circle-center = rw (ends-in-own a (bytes ".center")) (take-at a (bytes ".center") (length (a ++ bytes ".center") - 7) (omega (arith, length-append a (bytes ".center"))))
+stem-is a n arc-center = rw (ends-in-own a (bytes ".center")) (take-at a (bytes ".center") (length (a ++ bytes ".center") - 7) (omega (arith, length-append a (bytes ".center"))))
+
 -- ---- a label of a rule, worked out
 
--- the ids of label q of the rule e: all slots of a shape, or the x or y of a part, or that of a center
-pub data WorkedOut (es : List Entry) (next : ℕ) (e : Entry) (q : ℕ) : Type 0 where
-  all-slots : (j : ℕ) (s : Shape) → namingOf (e .kind) ≡ whole → Declares es j s → nameNo es j ≡ labelNo e q → size s ≡ idsAt (e .kind) q
-      → namedIds es next e (labelNo e q) ≡ onward (next + firstSlot s es j) (size s) → WorkedOut es next e q
-  of-part : (j : ℕ) (s : Shape) (u : Label) → namingOf (e .kind) ≡ part → Declares es j s → PairPart s u → XY (e .third) → nameNo es j ++ u ≡ labelNo e q → 1 ≡ idsAt (e .kind) q
-      → namedIds es next e (labelNo e q) ≡ (next + (firstSlot s es j + componentAt s u (e .third))) ∷ [] → WorkedOut es next e q
-  of-center : (j : ℕ) (s : Shape) → namingOf (e .kind) ≡ center → Declares es j s → PairPart s (bytes ".center") → XY (e .third) → nameNo es j ≡ labelNo e q → 1 ≡ idsAt (e .kind) q
-      → namedIds es next e (labelNo e q) ≡ (next + (firstSlot s es j + componentAt s (bytes ".center") (e .third))) ∷ [] → WorkedOut es next e q
+-- label q of the rule e names so many slots, from a first one on, of the shape that a record declares: the steps find them, and their ids are meant
+pub record WorkedOut (es : List Entry) (next : ℕ) (e : Entry) (q : ℕ) : Type 0 where
+  pub at : ℕ
+  pub shape : Shape
+  pub declared : Declares es at shape
+  pub first : ℕ
+  pub count : ℕ
+  pub some : 0 < count
+  pub inside : first + count ≤ size shape
+  pub wide : count ≡ idsAt (e .kind) q
+  pub span : spanOf es (namingOf (e .kind)) (e .third) (labelNo e q) ≡ record { shape = at; first = first; count = count }
+  pub ids-are : namedIds es next e (labelNo e q) ≡ onward (next + (firstSlot shape es at + first)) count
 
 -- a third byte from 1 to 2
 xy : (a : ℕ) → a ≤ 2 → 0 < a → XY a
 xy zero h g = absurd (omega (arith, g))
-xy (suc zero) h g = inl refl
-xy (suc (suc zero)) h g = inr refl
+xy (suc zero) h g = the-x
+xy (suc (suc zero)) h g = the-y
 xy (suc (suc (suc a))) h g = absurd (omega (arith, h))
 
-module _ (es : List Entry) (w : Fine es) (next : ℕ) (e : Entry) where
-  named-part : (s : Shape) (u : Label) → PairPart s u → e .kind ≡ 4 → XY (e .third) → Named es s u (labelNo e 0) → WorkedOut es next e 0
-  named-part s u p k o (j, h, (d, q)) =
-      let n : namingOf (e .kind) ≡ part = rw k refl in
-      let own : Declares es j s = record { inside = h; kind-is = d } in
-      of-part j s u n own p o q (rw k refl) (part-ids es w next e (labelNo e 0) j s own u n p o q)
+pub sizes : (s : Shape) → (0 < size s) × (size s ≤ 6) × (sizeBy (declaring s) ≡ size s)
+sizes point = (omega arith, omega arith, refl)
+sizes circle = (omega arith, omega arith, refl)
+sizes arc = (omega arith, omega arith, refl)
 
-  named-center : (s : Shape) → PairPart s (bytes ".center") → e .kind ≡ 18 → XY (e .third) → Named es s [] (labelNo e 0) → WorkedOut es next e 0
-  named-center s p k o (j, h, (d, q)) =
-      let n : namingOf (e .kind) ≡ center = rw k refl in
-      let own : Declares es j s = record { inside = h; kind-is = d } in
-      let name : nameNo es j ≡ labelNo e 0 = sym (append-nil (nameNo es j)) ∙ q in
-      of-center j s n own p o name (rw k refl) (center-ids es w next e (labelNo e 0) j s own n p o name)
+module _ (es : List Entry) (w : Fine es) (next : ℕ) (e : Entry) where
+  -- the x or y of a point or a center
+  module _ (s : Shape) (u : Label) (p : PairPart s u) (o : XY (e .third)) where
+    parted : (j q : ℕ) → Declares es j s → 1 ≡ idsAt (e .kind) q → spanOf es (namingOf (e .kind)) (e .third) (labelNo e q) ≡ centerSpan es (e .third) (nameNo es j)
+        → namedIds es next e (labelNo e q) ≡ idsWhere (names part (e .third) (nameNo es j ++ u)) next (slots es) → WorkedOut es next e q
+    parted j q d one span ids = record {
+      at = j;
+      shape = s;
+      declared = d;
+      first = componentAt s u (e .third);
+      count = 1;
+      some = omega arith;
+      inside = omega (arith, stands p o .1);
+      wide = one;
+      span = span ∙ rw (declared-found es w j s d, d .kind-is, stands p o .0) refl;
+      ids-are = ids ∙ ids-part es w j s d next (e .third) p o;
+    }
+
+    at-part : e .kind ≡ 4 → Named es s u (labelNo e 0) → WorkedOut es next e 0
+    unfolding spanOf namedIds
+    at-part k (j, h, (d, name)) =
+        let own : Declares es j s = record { inside = h; kind-is = d } in
+        parted j 0 own (rw k refl) (rw (k, ← name, stem-is (nameNo es j) (plain-no-dot (plain-name es w j s own)) p) refl) (rw (k, ← name) refl)
+
+    at-center : u ≡ bytes ".center" → e .kind ≡ 18 → Named es s [] (labelNo e 0) → WorkedOut es next e 0
+    unfolding spanOf namedIds
+    at-center c k (j, h, (d, q)) =
+        let name : labelNo e 0 ≡ nameNo es j = sym q ∙ append-nil (nameNo es j) in
+        parted j 0 (record { inside = h; kind-is = d }) (rw k refl) (rw (k, name) refl) (rw (k, name, c) refl)
 
   fixed-part : e .kind ≡ 4 → XY (e .third) → Meets es (needAt 4 0) (labelNo e 0) → WorkedOut es next e 0
-  fixed-part k o (inl m) = named-part point [] the-point k o m
-  fixed-part k o (inr (inl m)) = named-part circle (bytes ".center") circle-center k o m
-  fixed-part k o (inr (inr (inl m))) = named-part arc (bytes ".center") arc-center k o m
+  fixed-part k o (inl m) = at-part point [] the-point o k m
+  fixed-part k o (inr (inl m)) = at-part circle (bytes ".center") circle-center o k m
+  fixed-part k o (inr (inr (inl m))) = at-part arc (bytes ".center") arc-center o k m
   fixed-part k o (inr (inr (inr m))) = absurd m
 
   fixed-center : e .kind ≡ 18 → XY (e .third) → Meets es (needAt 18 0) (labelNo e 0) → WorkedOut es next e 0
-  fixed-center k o (inl m) = named-center circle circle-center k o m
-  fixed-center k o (inr (inl m)) = named-center arc arc-center k o m
+  fixed-center k o (inl m) = at-center circle (bytes ".center") circle-center o refl k m
+  fixed-center k o (inr (inl m)) = at-center arc (bytes ".center") arc-center o refl k m
   fixed-center k o (inr (inr m)) = absurd m
 
-  third-xy : (k : ℕ) → e .kind ≡ k → kindAt k .thirds ≡ 2 → Sound e → XY (e .third)
-  third-xy k q two s =
-      let t : kindAt (e .kind) .thirds ≡ 2 = ap (λ (n : ℕ). kindAt n .thirds) q ∙ two in
-      xy (e .third) (omega (arith, t, s .third .0)) (s .third .1 (omega (arith, t)))
+  -- kinds 4 and 18 have one label, and a third byte for x or y
+  fixed : (k q : ℕ) → kindAt k .labels ≡ 1 → kindAt k .thirds ≡ 2 → (e .kind ≡ k → XY (e .third) → Meets es (needAt k 0) (labelNo e 0) → WorkedOut es next e 0)
+      → e .kind ≡ k → Sound e → q < kindAt (e .kind) .labels → Meets es (needAt (e .kind) q) (labelNo e q) → WorkedOut es next e q
+  fixed k zero one two f is s h m =
+      let t : kindAt (e .kind) .thirds ≡ 2 = rw is two in
+      f is (xy (e .third) (omega (arith, t, s .third .0)) (s .third .1 (omega (arith, t)))) (rw is at m)
+  fixed k (suc q) one two f is s h m = absurd (omega (arith, one, rw is at h))
 
-  at-four : (q : ℕ) → e .kind ≡ 4 → Sound e → q < kindAt 4 .labels → Meets es (needAt 4 q) (labelNo e q) → WorkedOut es next e q
-  at-four zero k s h m = fixed-part k (third-xy 4 k refl s) m
-  at-four (suc q) k s h m = absurd (omega (arith, h))
-
-  at-eighteen : (q : ℕ) → e .kind ≡ 18 → Sound e → q < kindAt 18 .labels → Meets es (needAt 18 q) (labelNo e q) → WorkedOut es next e q
-  at-eighteen zero k s h m = fixed-center k (third-xy 18 k refl s) m
-  at-eighteen (suc q) k s h m = absurd (omega (arith, h))
-
-  at-other : (q : ℕ) → eqb (e .kind) fixComponent ≡ false → eqb (e .kind) fixCenter ≡ false → Rule (e .kind) → q < kindAt (e .kind) .labels → Meets es (needAt (e .kind) q) (labelNo e q) → WorkedOut es next e q
-  at-other q a b u h m =
-      let (j, s, d, name, wide) = bare-met es (needAt (e .kind) q) (labelNo e q) (bare-kind (e .kind) u (rw (a, b) refl) q h) m in
-      let n : namingOf (e .kind) ≡ whole = rw (a, b) refl in
-      all-slots j s n d name (wide ∙ rw (a, b) refl) (whole-ids es w next e (labelNo e q) j s d n name)
+  -- all slots of a shape
+  wholly : (q : ℕ) → eqb (e .kind) fixComponent ≡ false → eqb (e .kind) fixCenter ≡ false → BareMet es (needAt (e .kind) q) (labelNo e q) → WorkedOut es next e q
+  unfolding spanOf namedIds
+  wholly q a b (j, s, d, name, wide) =
+      let none : firstSlot s es j + 0 ≡ firstSlot s es j = omega arith in
+      record {
+        at = j;
+        shape = s;
+        declared = d;
+        first = 0;
+        count = size s;
+        some = sizes s .0;
+        inside = omega arith;
+        wide = wide ∙ rw (a, b) refl;
+        span = rw (a, b, ← name, declared-found es w j s d, d .kind-is, sizes s .2) refl;
+        ids-are = rw (a, b, ← name, none) (ids-whole es w j s d next (e .third));
+      }
 
   worked : (q : ℕ) → Sound e → Rule (e .kind) → q < kindAt (e .kind) .labels → Meets es (needAt (e .kind) q) (labelNo e q) → WorkedOut es next e q
   worked q s u h m = go (eqb (e .kind) fixComponent) refl (eqb (e .kind) fixCenter) refl
     where
       go : (a : Bool) → eqb (e .kind) fixComponent ≡ a → (b : Bool) → eqb (e .kind) fixCenter ≡ b → WorkedOut es next e q
-      go true a b f = let k = eqb-true (e .kind) fixComponent a in at-four q k s (rw k at h) (rw k at m)
-      go false a true f = let k = eqb-true (e .kind) fixCenter f in at-eighteen q k s (rw k at h) (rw k at m)
-      go false a false f = at-other q a f u h m
-
--- as many ids as its place comes to
-count-of : (es : List Entry) (next : ℕ) (e : Entry) (q : ℕ) → WorkedOut es next e q → length (namedIds es next e (labelNo e q)) ≡ idsAt (e .kind) q
-count-of es next e q (all-slots j s n d name wide ids) = ap length ids ∙ length-onward (next + firstSlot s es j) (size s) ∙ wide
-count-of es next e q (of-part j s u n d p o name one ids) = ap length ids ∙ one
-count-of es next e q (of-center j s n d p o name one ids) = ap length ids ∙ one
-
--- one at least
-some-of : (es : List Entry) (next : ℕ) (e : Entry) (q : ℕ) → WorkedOut es next e q → 0 < length (namedIds es next e (labelNo e q))
-some-of es next e q (all-slots j s n d name wide ids) = rw (ids, length-onward (next + firstSlot s es j) (size s)) (positive s)
-  where
-    positive : (s : Shape) → 0 < size s
-    positive point = omega arith
-    positive circle = omega arith
-    positive arc = omega arith
-some-of es next e q (of-part j s u n d p o name one ids) = rw ids (omega arith)
-some-of es next e q (of-center j s n d p o name one ids) = rw ids (omega arith)
+      go true a b f = fixed fixComponent q refl refl fixed-part (eqb-true (e .kind) fixComponent a) s h m
+      go false a true f = fixed fixCenter q refl refl fixed-center (eqb-true (e .kind) fixCenter f) s h m
+      go false a false f = wholly q a f (bare-met es (needAt (e .kind) q) (labelNo e q) (bare-kind (e .kind) u (rw (a, f) refl) q h) m)
 
 -- ---- a rule of a fine drawing
 
@@ -169,14 +213,11 @@ module _ (es : List Entry) (w : Fine es) (next i : ℕ) (h : i < length es) (u :
   pub worked-out : (q : ℕ) → q < kindAt (kindNo es i) .labels → WorkedOut es next (entryAt es i) q
   worked-out q g = worked es w next e q (w .sound i h) u g (w .met i h u q g)
 
-  -- the ids of its first labels
-  pub ids-to : (n : ℕ) → n ≤ length (entryAt es i .labels) → length (flat (namedIds es next (entryAt es i)) (take n (entryAt es i .labels))) ≡ sumTo (idsAt (kindNo es i)) n
-  ids-to = sum-to (namedIds es next e) (idsAt (e .kind)) (e .labels) [] (λ q g. count-of es next e q (worked-out q (rw label-count at g)))
-
-  -- its ids, as many as the table tells, and eight at most
-  pub ids-count : length (flat (namedIds es next (entryAt es i)) (entryAt es i .labels)) ≡ idsOfKind (kindNo es i)
+  -- it has as many ids as the table tells, and eight at most
+  ids-count : length (flat (namedIds es next e) (e .labels)) ≡ idsOfKind (e .kind)
   ids-count =
-      sum-flat (namedIds es next e) (idsAt (e .kind)) (e .labels) [] (λ q g. count-of es next e q (worked-out q (rw label-count at g)))
+      sum-flat (namedIds es next e) (idsAt (e .kind)) (e .labels) []
+      (λ q g. let k = worked-out q (rw label-count at g) in rw (k .ids-are, length-onward _ (k .count)) (k .wide))
       ∙ rw label-count refl
 
   pub ids-few : length (flat (namedIds es next (entryAt es i)) (entryAt es i .labels)) ≤ mostIds
@@ -188,8 +229,9 @@ module _ (es : List Entry) (w : Fine es) (next i : ℕ) (h : i < length es) (u :
   carries q g =
       let l = labelNo e q in
       let p = names (namingOf (e .kind)) (e .third) l in
+      let k = worked-out q (rw label-count at g) in
       record {
-        some = some-of es next e q (worked-out q (rw label-count at g));
+        some = rw (k .ids-are, length-onward _ (k .count)) (k .some);
         named = λ n m. let (j, b, (k, t)) = ids-named p next (slots es) n m in (j, b, (k, says-names (namingOf (e .kind)) (e .third) l (slotAt es j) .so t));
         all = λ j b n. ids-has p next (slots es) j b (says-names (namingOf (e .kind)) (e .third) l (slotAt es j) .back n) (next + j) refl;
         rising = ids-rise p next (slots es);

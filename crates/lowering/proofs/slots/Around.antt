@@ -1,7 +1,8 @@
 -- Where the slots of a declared shape stand among all slots: its kind's labels are cut at its own, and no other slot has its label. Assumes nothing.
-use mathlib.Core.Path.{_≡_, sym, ap, _∙_}
+use mathlib.Core.Path.{_≡_, refl, sym, ap, _∙_}
+use mathlib.Core.Logic.{inl, inr}
 use mathlib.Core.Bool.{true}
-use mathlib.Core.List.{List, _∷_, _++_, append-assoc}
+use mathlib.Core.List.{List, [], _∷_, _++_, append-assoc, append-nil}
 use Prim.Native.Nat.{ℕ, suc, _+_, _*_, _<_}
 use native.Mathlib.Omega.{arith}
 use lib.ListN.{length, take, drop, length-append, length-drop}
@@ -11,12 +12,12 @@ use Rattle.record.specs.Entry.{Label, Entry, noEntry, entryAt, labelNo}
 use Rattle.index.specs.Labels.{kindNo, nameNo, within}
 use Rattle.drawing.specs.Needs.{Shape, point, circle, arc, declaring}
 use Rattle.ground.specs.Lists.{flat}
-use Rattle.lowering.specs.Slots.{Slot, slotsOfShape, labelsOf, slotsOf, slots, size, before, firstSlot}
+use Rattle.lowering.specs.Slots.{Slot, slot, slotsOfShape, labelsOf, slotsOf, slots, size, before, firstSlot}
 use Rattle.lowering.specs.Demand.{Declares}
 use Rattle.ground.proofs.Pieces.{Each, each-append, each-flat, flat-append, picks-around, picks-each}
 use Rattle.index.proofs.Laws.{within-one}
 use Rattle.lowering.proofs.drawing.Counts.{labels-pick, labels-before, labels-all, length-of}
-use Rattle.lowering.proofs.drawing.Fine.{Once, Fine, declaration}
+use Rattle.lowering.proofs.drawing.Fine.{Fine, declaration, Behind}
 
 -- ---- what holds of each declared shape's label holds of each slot's
 
@@ -36,13 +37,14 @@ each-of-all Q es f =
     each-append Q (slotsOf point es) (slotsOf circle es ++ slotsOf arc es) (f point)
     (each-append Q (slotsOf circle es) (slotsOf arc es) (f circle) (f arc))
 
--- a shape's slots have its label
-pub own-label : (P : Label → Type 0) (s : Shape) (l : Label) → P l → Each (λ (t : Slot). P (t .shape)) (slotsOfShape s l)
-own-label P point l h = (h, (h, tt))
-own-label P circle l h = (h, (h, (h, tt)))
-own-label P arc l h = (h, (h, (h, (h, (h, (h, tt))))))
+-- what holds of a shape's label, whatever stands behind it, holds of its slots
+pub each-own : (Q : Slot → Type 0) (s : Shape) (l : Label) → ((u : Label) (a : ℕ) → Behind u → Q (slot l u a)) → Each Q (slotsOfShape s l)
+each-own Q point l f = (f _ _ (inl refl), (f _ _ (inl refl), tt))
+each-own Q circle l f = (f _ _ (inr (_, refl)), (f _ _ (inr (_, refl)), (f _ _ (inr (_, refl)), tt)))
+each-own Q arc l f =
+    (f _ _ (inr (_, refl)), (f _ _ (inr (_, refl)), (f _ _ (inr (_, refl)), (f _ _ (inr (_, refl)), (f _ _ (inr (_, refl)), (f _ _ (inr (_, refl)), tt))))))
 
--- ---- the slots of the shape that record i declares, where no other record declares its label
+-- ---- the slots of the shape that record i declares, in a drawing that the check passes
 
 abbrev pub Other : Label → Slot → Type 0
 Other l t = t .shape ≡ l → ⊥
@@ -56,7 +58,30 @@ pub record Around (es : List Entry) (i : ℕ) (s : Shape) : Type 0 where
   pub not-before : Each (Other (nameNo es i)) front
   pub not-behind : Each (Other (nameNo es i)) rest
 
-module _ (es : List Entry) (i : ℕ) (s : Shape) (d : Declares es i s) (once : Once es i) where
+-- the slots of the kinds before one, and of those behind it
+abbrev frontOf : Shape → List Entry → List Slot
+frontOf point es = []
+frontOf circle es = slotsOf point es
+frontOf arc es = slotsOf point es ++ slotsOf circle es
+
+abbrev restOf : Shape → List Entry → List Slot
+restOf point es = slotsOf circle es ++ slotsOf arc es
+restOf circle es = slotsOf arc es
+restOf arc es = []
+
+of-kinds : (s : Shape) (es : List Entry) → slots es ≡ frontOf s es ++ (slotsOf s es ++ restOf s es)
+unfolding slots
+of-kinds point es = refl
+of-kinds circle es = refl
+of-kinds arc es = simp (append-assoc, append-nil)
+
+front-long : (s : Shape) (es : List Entry) (i n : ℕ) → n ≡ before s es i * size s → length (frontOf s es) + n ≡ firstSlot s es i
+front-long point es i n e = omega (arith, e)
+front-long circle es i n e = omega (arith, e, length-of point es, labels-all es point)
+front-long arc es i n e =
+    omega (arith, e, length-append (slotsOf point es) (slotsOf circle es), length-of point es, labels-all es point, length-of circle es, labels-all es circle)
+
+module _ (es : List Entry) (w : Fine es) (i : ℕ) (s : Shape) (d : Declares es i s) where
   -- the slots of its kind, around its own
   own-slots : slotsOf s es ≡ slotsOf s (take i es) ++ (slotsOfShape s (nameNo es i) ++ slotsOf s (drop (suc i) es))
   own-slots =
@@ -64,95 +89,48 @@ module _ (es : List Entry) (i : ℕ) (s : Shape) (d : Declares es i s) (once : O
       ap (flat (slotsOfShape s)) (picks-around _ _ _ (labels-pick s) es i noEntry (d .inside) passes)
       ∙ flat-append (slotsOfShape s) (labelsOf s (take i es)) (nameNo es i ∷ labelsOf s (drop (suc i) es))
 
-  others : (t : Shape) (fs : List Entry) → ((j : ℕ) → Declares fs j t → nameNo fs j ≡ nameNo es i → ⊥) → Each (Other (nameNo es i)) (slotsOf t fs)
-  others t fs f = each-slot (λ (l : Label). l ≡ nameNo es i → ⊥) (Other (nameNo es i)) t fs (own-label (λ (l : Label). l ≡ nameNo es i → ⊥) t) f
-
-  front-other : Each (Other (nameNo es i)) (slotsOf s (take i es))
-  front-other =
-      others s (take i es)
+  -- no slot of some records has its label, where each of them is another of the drawing's
+  others : (t : Shape) (fs : List Entry) (to : ℕ → ℕ) → ((j : ℕ) → Declares fs j t → (to j < length es) × (to j ≡ i → ⊥) × (entryAt fs j ≡ entryAt es (to j)))
+      → Each (Other (nameNo es i)) (slotsOf t fs)
+  others t fs to f =
+      each-slot (λ (l : Label). l ≡ nameNo es i → ⊥) (Other (nameNo es i)) t fs (λ l n. each-own (Other (nameNo es i)) t l (λ u a b. n))
       (λ j g e.
-      let b : j < i = omega (arith, g .inside, length-take-le i es (omega (arith, d .inside))) in
-      let same-entry : entryAt (take i es) j ≡ entryAt es j = getD-take i es j noEntry b in
-      once j (omega (arith, b, d .inside)) (λ q. omega (arith, b, q))
-      (declaration s (kindNo es j) (sym (ap (λ (r : Entry). r .kind) same-entry) ∙ g .kind-is))
-      (sym (ap (λ (r : Entry). labelNo r 0) same-entry) ∙ e))
+      let (b, n, q) = f j g in
+      w .once i (d .inside) (declaration s (kindNo es i) (d .kind-is)) (to j) b n (declaration t (kindNo es (to j)) (sym (ap (λ (r : Entry). r .kind) q) ∙ g .kind-is)) (sym (ap (λ (r : Entry). labelNo r 0) q) ∙ e))
 
-  rest-other : Each (Other (nameNo es i)) (slotsOf s (drop (suc i) es))
-  rest-other =
-      others s (drop (suc i) es)
-      (λ j g e.
-      let same-entry : entryAt (drop (suc i) es) j ≡ entryAt es (suc i + j) = getD-drop (suc i) es j noEntry in
-      once (suc i + j) (omega (arith, g .inside, length-drop (suc i) es)) (λ q. omega (arith, q))
-      (declaration s (kindNo es (suc i + j)) (sym (ap (λ (r : Entry). r .kind) same-entry) ∙ g .kind-is))
-      (sym (ap (λ (r : Entry). labelNo r 0) same-entry) ∙ e))
+  of-kind : (t : Shape) → (declaring t ≡ declaring s → ⊥) → Each (Other (nameNo es i)) (slotsOf t es)
+  of-kind t f = others t es (λ j. j) (λ j g. (g .inside, (λ q. f (sym (g .kind-is) ∙ ap (kindNo es) q ∙ d .kind-is)), refl))
 
-  all-other : (t : Shape) → (declaring t ≡ declaring s → ⊥) → Each (Other (nameNo es i)) (slotsOf t es)
-  all-other t f = others t es (λ j g e. once j (g .inside) (λ q. f (sym (g .kind-is) ∙ ap (kindNo es) q ∙ d .kind-is)) (declaration t (kindNo es j) (g .kind-is)) e)
+front-other : (es : List Entry) (w : Fine es) (i : ℕ) (s : Shape) (d : Declares es i s) → Each (Other (nameNo es i)) (frontOf s es)
+front-other es w i point d = tt
+front-other es w i circle d = of-kind es w i circle d point (λ e. omega (arith, e))
+front-other es w i arc d =
+    each-append (Other (nameNo es i)) (slotsOf point es) (slotsOf circle es) (of-kind es w i arc d point (λ e. omega (arith, e))) (of-kind es w i arc d circle (λ e. omega (arith, e)))
 
-  front-length : length (slotsOf s (take i es)) ≡ before s es i * size s
-  front-length = length-of s (take i es) ∙ ap (λ (n : ℕ). n * size s) (labels-before es s i (omega (arith, d .inside)))
+rest-other : (es : List Entry) (w : Fine es) (i : ℕ) (s : Shape) (d : Declares es i s) → Each (Other (nameNo es i)) (restOf s es)
+rest-other es w i point d =
+    each-append (Other (nameNo es i)) (slotsOf circle es) (slotsOf arc es) (of-kind es w i point d circle (λ e. omega (arith, e))) (of-kind es w i point d arc (λ e. omega (arith, e)))
+rest-other es w i circle d = of-kind es w i circle d arc (λ e. omega (arith, e))
+rest-other es w i arc d = tt
 
-pub around : (es : List Entry) (i : ℕ) (s : Shape) → Declares es i s → Once es i → Around es i s
-unfolding slots
-around es i point d once =
-    let l = nameNo es i in
-    let r = slotsOf point (drop (suc i) es) in
-    let more = slotsOf circle es ++ slotsOf arc es in
+pub around : (es : List Entry) → Fine es → (i : ℕ) (s : Shape) → Declares es i s → Around es i s
+around es w i s d =
     record {
-      front = slotsOf point (take i es);
-      rest = r ++ more;
-      is =
-          ap (λ (t : List Slot). t ++ more) (own-slots es i point d once)
-          ∙ append-assoc (slotsOf point (take i es)) (slotsOfShape point l ++ r) more;
-      place = front-length es i point d once ∙ omega arith;
-      not-before = front-other es i point d once;
-      not-behind =
-          each-append (Other l) r more (rest-other es i point d once)
-          (each-append (Other l) (slotsOf circle es) (slotsOf arc es) (all-other es i point d once circle (λ e. omega (arith, e))) (all-other es i point d once arc (λ e. omega (arith, e))));
-    }
-around es i circle d once =
-    let l = nameNo es i in
-    let f = slotsOf circle (take i es) in
-    let r = slotsOf circle (drop (suc i) es) in
-    record {
-      front = slotsOf point es ++ f;
-      rest = r ++ slotsOf arc es;
-      is =
-          ap (λ (t : List Slot). slotsOf point es ++ (t ++ slotsOf arc es)) (own-slots es i circle d once)
-          ∙ ap (λ (t : List Slot). slotsOf point es ++ t) (append-assoc f (slotsOfShape circle l ++ r) (slotsOf arc es))
-          ∙ sym (append-assoc (slotsOf point es) f (slotsOfShape circle l ++ (r ++ slotsOf arc es)));
-      place = length-append (slotsOf point es) f ∙ omega (arith, length-of point es, labels-all es point, front-length es i circle d once);
-      not-before = each-append (Other l) (slotsOf point es) f (all-other es i circle d once point (λ e. omega (arith, e))) (front-other es i circle d once);
-      not-behind = each-append (Other l) r (slotsOf arc es) (rest-other es i circle d once) (all-other es i circle d once arc (λ e. omega (arith, e)));
-    }
-around es i arc d once =
-    let l = nameNo es i in
-    let f = slotsOf arc (take i es) in
-    let r = slotsOf arc (drop (suc i) es) in
-    record {
-      front = slotsOf point es ++ (slotsOf circle es ++ f);
-      rest = r;
-      is =
-          ap (λ (t : List Slot). slotsOf point es ++ (slotsOf circle es ++ t)) (own-slots es i arc d once)
-          ∙ ap (λ (t : List Slot). slotsOf point es ++ t) (sym (append-assoc (slotsOf circle es) f (slotsOfShape arc l ++ r)))
-          ∙ sym (append-assoc (slotsOf point es) (slotsOf circle es ++ f) (slotsOfShape arc l ++ r));
+      front = frontOf s es ++ slotsOf s (take i es);
+      rest = slotsOf s (drop (suc i) es) ++ restOf s es;
+      is = of-kinds s es ∙ rw (own-slots es w i s d) (simp append-assoc);
       place =
-          length-append (slotsOf point es) (slotsOf circle es ++ f)
-          ∙ omega (
-            arith,
-            length-append (slotsOf circle es) f,
-            length-of point es,
-            labels-all es point,
-            length-of circle es,
-            labels-all es circle,
-            front-length es i arc d once,
-          );
+          length-append (frontOf s es) (slotsOf s (take i es))
+          ∙ front-long s es i _ (length-of s (take i es) ∙ rw (labels-before es s i (omega (arith, d .inside))) refl);
       not-before =
-          each-append (Other l) (slotsOf point es) (slotsOf circle es ++ f) (all-other es i arc d once point (λ e. omega (arith, e)))
-          (each-append (Other l) (slotsOf circle es) f (all-other es i arc d once circle (λ e. omega (arith, e))) (front-other es i arc d once));
-      not-behind = rest-other es i arc d once;
+          each-append (Other (nameNo es i)) (frontOf s es) (slotsOf s (take i es)) (front-other es w i s d)
+          (others es w i s d s (take i es) (λ j. j)
+          (λ j g.
+          let b : j < i = omega (arith, g .inside, length-take-le i es (omega (arith, d .inside))) in
+          (omega (arith, d .inside), (λ q. omega (arith, b, q)), getD-take i es j noEntry b)));
+      not-behind =
+          each-append (Other (nameNo es i)) (slotsOf s (drop (suc i) es)) (restOf s es)
+          (others es w i s d s (drop (suc i) es) (λ j. suc i + j)
+          (λ j g. (omega (arith, g .inside, length-drop (suc i) es), (λ q. omega (arith, q)), getD-drop (suc i) es j noEntry)))
+          (rest-other es w i s d);
     }
-
--- in a drawing that the check passes
-pub around-fine : (es : List Entry) → Fine es → (i : ℕ) (s : Shape) → Declares es i s → Around es i s
-around-fine es w i s d = around es i s d (w .once i (d .inside) (declaration s (kindNo es i) (d .kind-is)))

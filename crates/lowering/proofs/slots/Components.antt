@@ -1,23 +1,23 @@
 -- The slots of a fine drawing are the components of its declared shapes, one for one: a slot's label tells the shape, and its place in the shape
 -- the component. Assumes nothing.
 use mathlib.Core.Path.{_≡_, refl, sym, ap, _∙_, subst}
-use mathlib.Core.List.{List, _++_}
-use Prim.Native.Nat.{ℕ, zero, suc, _+_, _-_, _<_}
+use mathlib.Core.List.{List, _++_, map, append-assoc}
+use Prim.Native.Nat.{ℕ, _+_, _-_, _≤_, _<_}
 use native.Mathlib.Omega.{arith}
-use native.Mathlib.Decide.{decLt}
 use lib.ListN.{length, getD, length-append, List·getD-append}
 use lib.Seq.{getD-append-add}
 use Rattle.refusal.specs.First.{EachBelow}
-use Rattle.record.specs.Entry.{Label, Entry}
+use Rattle.record.specs.Entry.{Label, Entry, upTo}
+use Rattle.record.proofs.UpTo.{getD-up-to}
 use Rattle.index.specs.Labels.{kindNo, nameNo}
 use Rattle.drawing.specs.Needs.{Shape, point, circle, arc}
 use Rattle.lowering.specs.Slots.{Slot, slotsOfShape, slots, size, firstSlot}
 use Rattle.lowering.specs.Offsets.{componentAt}
 use Rattle.lowering.specs.Demand.{noSlot, slotAt, Declares, ComponentOf, OneComponent}
-use Rattle.ground.proofs.Pieces.{Each, each-of, each-at}
+use Rattle.ground.proofs.Pieces.{Each, each-of, each-at, getD-map}
 use Rattle.lowering.proofs.drawing.Counts.{length-shape}
 use Rattle.lowering.proofs.drawing.Fine.{Fine, same-shape, same-record}
-use Rattle.lowering.proofs.slots.Around.{around-fine, each-slot, each-of-all, own-label}
+use Rattle.lowering.proofs.slots.Around.{Other, around, each-slot, each-of-all, each-own}
 
 -- ---- each slot is a component of a declared shape
 
@@ -45,48 +45,18 @@ module _ (es : List Entry) where
   pub component-at : EachBelow (length (slots es)) (λ j. (i : ℕ) × (s : Shape) × (k : ℕ) × ComponentOf es i s k (slotAt es j))
   component-at j h = each-at (Component es) (slots es) noSlot components j h
 
--- ---- an element of the middle of three lists
-
-module _ (xs ys zs : List Slot) (P : Slot → Type 0) (a : Each (λ t. P t → ⊥) xs) (b : Each (λ t. P t → ⊥) zs) where
-  abbrev Middle : ℕ → Type 0
-  Middle j = (k : ℕ) × (k < length ys) × (j ≡ length xs + k) × (getD (xs ++ (ys ++ zs)) j noSlot ≡ getD ys k noSlot)
-
-  middle : (j : ℕ) → j < length (xs ++ (ys ++ zs)) → P (getD (xs ++ (ys ++ zs)) j noSlot) → Middle j
-  middle j h p =
-      elim (decLt j (length xs)) [
-        | yes g ↦ absurd (each-at (λ t. P t → ⊥) xs noSlot a j g (subst P (List·getD-append xs (ys ++ zs) noSlot j g) p))
-        | no f ↦ second (j - length xs) (omega (arith, f))
-      ]
-    where
-      third : (k m : ℕ) → j ≡ length xs + k → k ≡ length ys + m → Middle j
-      third k m e f =
-          let q : getD (xs ++ (ys ++ zs)) j noSlot ≡ getD zs m noSlot = rw (e, getD-append-add xs (ys ++ zs) k noSlot, f, getD-append-add ys zs m noSlot) refl in
-          absurd (each-at (λ t. P t → ⊥) zs noSlot b m (omega (arith, h, e, f, length-append xs (ys ++ zs), length-append ys zs)) (subst P q p))
-
-      second : (k : ℕ) → j ≡ length xs + k → Middle j
-      second k e =
-          elim (decLt k (length ys)) [
-            | yes g ↦ (k, g, e, rw (e, getD-append-add xs (ys ++ zs) k noSlot) (List·getD-append ys zs noSlot k g))
-            | no f ↦ third k (k - length ys) e (omega (arith, f))
-          ]
-
 -- ---- the components of one shape differ: each tells its place
 
-pub place-told : (s : Shape) (l : Label) (k : ℕ) → k < size s → componentAt s (getD (slotsOfShape s l) k noSlot .suffix) (getD (slotsOfShape s l) k noSlot .axis) ≡ k
-place-told point l zero h = refl
-place-told point l (suc zero) h = refl
-place-told point l (suc (suc k)) h = absurd (omega (arith, h))
-place-told circle l zero h = refl
-place-told circle l (suc zero) h = refl
-place-told circle l (suc (suc zero)) h = refl
-place-told circle l (suc (suc (suc k))) h = absurd (omega (arith, h))
-place-told arc l zero h = refl
-place-told arc l (suc zero) h = refl
-place-told arc l (suc (suc zero)) h = refl
-place-told arc l (suc (suc (suc zero))) h = refl
-place-told arc l (suc (suc (suc (suc zero)))) h = refl
-place-told arc l (suc (suc (suc (suc (suc zero))))) h = refl
-place-told arc l (suc (suc (suc (suc (suc (suc k)))))) h = absurd (omega (arith, h))
+places-told : (s : Shape) (l : Label) → map (λ (t : Slot). componentAt s (t .suffix) (t .axis)) (slotsOfShape s l) ≡ upTo (size s) (λ k. k)
+places-told point l = refl
+places-told circle l = refl
+places-told arc l = refl
+
+place-told : (s : Shape) (l : Label) (k : ℕ) → k < size s → componentAt s (getD (slotsOfShape s l) k noSlot .suffix) (getD (slotsOfShape s l) k noSlot .axis) ≡ k
+place-told s l k h =
+    sym (getD-map (λ (t : Slot). componentAt s (t .suffix) (t .axis)) (slotsOfShape s l) k noSlot 0 (rw (length-shape s l) h))
+    ∙ ap (λ (z : List ℕ). getD z k 0) (places-told s l)
+    ∙ getD-up-to (size s) (λ k. k) k 0 h
 
 one-place : (s : Shape) (l : Label) (a b : ℕ) → a < size s → b < size s → getD (slotsOfShape s l) a noSlot ≡ getD (slotsOfShape s l) b noSlot → a ≡ b
 one-place s l a b h g e = sym (place-told s l a h) ∙ ap (λ (t : Slot). componentAt s (t .suffix) (t .axis)) e ∙ place-told s l b g
@@ -96,7 +66,7 @@ pub label-of : (es : List Entry) (i : ℕ) (s : Shape) (k : ℕ) (t : Slot) → 
 label-of es i s k t c =
     let l = nameNo es i in
     ap (λ (z : Slot). z .shape) (c .is)
-    ∙ each-at (λ (z : Slot). z .shape ≡ l) (slotsOfShape s l) noSlot (own-label (λ (z : Label). z ≡ l) s l refl) k (subst (λ (n : ℕ). k < n) (sym (length-shape s l)) (c .one-of-it))
+    ∙ each-at (λ (z : Slot). z .shape ≡ l) (slotsOfShape s l) noSlot (each-own (λ (z : Slot). z .shape ≡ l) s l (λ u a b. refl)) k (subst (λ (n : ℕ). k < n) (sym (length-shape s l)) (c .one-of-it))
 
 -- ---- a slot and its component
 
@@ -105,7 +75,7 @@ module _ (es : List Entry) (w : Fine es) where
   pub slot-of : (i : ℕ) (s : Shape) (k : ℕ) → Declares es i s → k < size s
       → (firstSlot s es i + k < length (slots es)) × ComponentOf es i s k (slotAt es (firstSlot s es i + k))
   slot-of i s k d g =
-      let a = around-fine es w i s d in
+      let a = around es w i s d in
       let l = nameNo es i in
       let own = slotsOfShape s l in
       let n : k < length own = subst (λ (m : ℕ). k < m) (sym (length-shape s l)) g in (
@@ -118,20 +88,26 @@ module _ (es : List Entry) (w : Fine es) where
       )
 
   -- and a slot with that shape's label is one of them
-  slot-is : (i : ℕ) (s : Shape) (j : ℕ) → Declares es i s → j < length (slots es) → slotAt es j .shape ≡ nameNo es i
-      → (k : ℕ) × (k < size s) × (j ≡ firstSlot s es i + k) × (slotAt es j ≡ getD (slotsOfShape s (nameNo es i)) k noSlot)
-  slot-is i s j d g q =
-      let a = around-fine es w i s d in
+  slot-is : (i : ℕ) (s : Shape) (j : ℕ) → Declares es i s → j < length (slots es) → slotAt es j .shape ≡ nameNo es i → (k : ℕ) × (k < size s) × (j ≡ firstSlot s es i + k)
+  slot-is i s j d h q =
+      let a = around es w i s d in
       let l = nameNo es i in
-      let (k, b, p, r) = middle (a .front) (slotsOfShape s l) (a .rest) (λ (t : Slot). t .shape ≡ l) (a .not-before) (a .not-behind) j (rw (a .is) at g) (rw (a .is) at q) in
-      (k, rw (length-shape s l) at b, p ∙ ap (λ (n : ℕ). n + k) (a .place), ap (λ (z : List Slot). getD z j noSlot) (a .is) ∙ r)
+      let own = slotsOfShape s l in
+      let low : j < length (a .front) → ⊥ = λ b. each-at (Other l) (a .front) noSlot (a .not-before) j b (rw (a .is, List·getD-append (a .front) (own ++ a .rest) noSlot j b) at q) in
+      let high : length (a .front ++ own) ≤ j → ⊥ = λ b.
+      let m = j - length (a .front ++ own) in
+      let e : j ≡ length (a .front ++ own) + m = omega (arith, b) in
+      let is : slots es ≡ (a .front ++ own) ++ a .rest = a .is ∙ sym (append-assoc (a .front) own (a .rest)) in
+      let here : slotAt es j ≡ getD (a .rest) m noSlot = ap (slotAt es) e ∙ rw is (getD-append-add (a .front ++ own) (a .rest) m noSlot) in
+      each-at (Other l) (a .rest) noSlot (a .not-behind) m (omega (arith, h, e, ap length is, length-append (a .front ++ own) (a .rest))) (rw here at q) in
+      (j - firstSlot s es i, omega (arith, low, high, a .place, length-append (a .front) own, length-shape s l), omega (arith, low, a .place))
 
   -- a component's place
   pub place-is : (i : ℕ) (s : Shape) (k j : ℕ) → j < length (slots es) → ComponentOf es i s k (slotAt es j) → j ≡ firstSlot s es i + k
   place-is i s k j h c =
-      let (m, g, p, e) = slot-is i s j (c .declared) h (label-of es i s k (slotAt es j) c) in
-      let same-place : m ≡ k = one-place s (nameNo es i) m k g (c .one-of-it) (sym e ∙ c .is) in
-      p ∙ ap (λ (n : ℕ). firstSlot s es i + n) same-place
+      let (m, g, p) = slot-is i s j (c .declared) h (label-of es i s k (slotAt es j) c) in
+      let e : getD (slotsOfShape s (nameNo es i)) m noSlot ≡ slotAt es j = sym (slot-of i s m (c .declared) g .1 .is) ∙ ap (slotAt es) (sym p) in
+      p ∙ ap (λ (n : ℕ). firstSlot s es i + n) (one-place s (nameNo es i) m k g (c .one-of-it) (e ∙ c .is))
 
   -- a slot is one component only
   only-one : (t : Slot) (i i′ : ℕ) (s s′ : Shape) (k k′ : ℕ) → ComponentOf es i s k t → ComponentOf es i′ s′ k′ t → (i ≡ i′) × (s ≡ s′) × (k ≡ k′)

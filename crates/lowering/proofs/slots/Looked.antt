@@ -1,26 +1,42 @@
 -- The id of a component is looked up under the name of the component: the lookup of a shape by its number clears its tests, and takes the ids of the
 -- shape's slots in the order of its components' names. Assumes nothing.
-use mathlib.Core.Path.{_≡_, refl, ap, _∙_}
-use mathlib.Core.List.{List}
-use Prim.Native.Nat.{ℕ, zero, suc, _+_, _≤_, _<_}
+use mathlib.Core.Path.{_≡_, refl, sym, ap, _∙_}
+use mathlib.Core.List.{List, map}
+use Prim.Native.Nat.{ℕ, _+_, _≤_, _<_}
 use native.Mathlib.Omega.{arith}
-use lib.ListN.{length, getD}
+use lib.ListN.{length, getD, drop, length-append, List·getD-append}
 use Rattle.layout.specs.declared.PointIds.the-variants as PI
 use Rattle.layout.specs.declared.CircleIds.the-variants as CI
 use Rattle.layout.specs.declared.ArcIds.the-variants as AI
 use Rattle.layout.specs.Slots as layout
 use Rattle.layout.specs.Refusals.{reasonNumber, lookTold}
 use Rattle.layout.specs.Look.{pointVars, circleVars, arcVars, pointIds, circleIds, arcSlotIds}
-use Rattle.refusal.specs.First.{passed}
+use Rattle.refusal.specs.First.{EachBelow, passed}
 use Rattle.refusal.proofs.Once.{answered-passed}
+use Rattle.layout.specs.Push.{onward}
+use Rattle.layout.proofs.Onward.{length-onward, getD-onward}
 use Rattle.layout.proofs.Laws.{look-passes}
-use Rattle.record.specs.Entry.{Label, Entry}
+use Rattle.record.specs.Entry.{Label, Entry, upTo}
+use Rattle.record.proofs.UpTo.{getD-up-to}
 use Rattle.index.specs.Labels.{nameNo}
 use Rattle.drawing.specs.Needs.{Shape, point, circle, arc}
 use Rattle.lowering.specs.Slots.{Slot, slotsOfShape, slots, size, before, kindFor, layoutOf, firstSlot}
 use Rattle.lowering.specs.Fields.{Ids, of-point, of-circle, of-arc, idsKind, idOf}
+use Rattle.lowering.specs.Lower.{onto}
 use Rattle.lowering.specs.Demand.{noSlot, Declares, ComponentOf, HandsIds, LookedUp}
-use Rattle.lowering.proofs.drawing.Counts.{before-inside, length-slots, possible}
+use Rattle.lowering.proofs.drawing.Counts.{before-inside, length-shape, length-slots, possible}
+use Rattle.ground.proofs.Pieces.{getD-map}
+
+-- ---- the ids that are given
+
+module _ (es : List Entry) (next : ℕ) (ids : List ℕ) where
+  pub given-id : EachBelow (length (slots es)) (λ j. getD (onto ids (onward next (length (slots es)))) j 0 ≡ next + j)
+  given-id j h =
+      let n = length (slots es) in
+      List·getD-append (onward next n) (drop (length (onward next n)) ids) 0 j (omega (arith, h, length-onward next n)) ∙ getD-onward next n j h
+
+  pub given-long : length (slots es) ≤ length (onto ids (onward next (length (slots es))))
+  given-long = simp (length-append, length-onward) (omega arith)
 
 -- ---- the ids of a shape, in the order of its components' names
 
@@ -35,24 +51,19 @@ module _ (ids : List ℕ) (at : ℕ) where
   of-kind circle = refl
   of-kind arc = refl
 
-  first : getD ids at 0 ≡ getD ids (at + 0) 0
+  pub first : getD ids at 0 ≡ getD ids (at + 0) 0
   first = let e : at ≡ at + 0 = omega arith in ap (λ (z : ℕ). getD ids z 0) e
 
+  ids-by-name : (s : Shape) (l : Label) → map (idOf (taken s)) (slotsOfShape s l) ≡ upTo (size s) (λ k. getD ids (at + k) 0)
+  ids-by-name point l = rw first refl
+  ids-by-name circle l = rw first refl
+  ids-by-name arc l = rw first refl
+
   id-is : (s : Shape) (l : Label) (k : ℕ) → k < size s → idOf (taken s) (getD (slotsOfShape s l) k noSlot) ≡ getD ids (at + k) 0
-  id-is point l zero h = first
-  id-is point l (suc zero) h = refl
-  id-is point l (suc (suc k)) h = absurd (omega (arith, h))
-  id-is circle l zero h = first
-  id-is circle l (suc zero) h = refl
-  id-is circle l (suc (suc zero)) h = refl
-  id-is circle l (suc (suc (suc k))) h = absurd (omega (arith, h))
-  id-is arc l zero h = first
-  id-is arc l (suc zero) h = refl
-  id-is arc l (suc (suc zero)) h = refl
-  id-is arc l (suc (suc (suc zero))) h = refl
-  id-is arc l (suc (suc (suc (suc zero)))) h = refl
-  id-is arc l (suc (suc (suc (suc (suc zero))))) h = refl
-  id-is arc l (suc (suc (suc (suc (suc (suc k)))))) h = absurd (omega (arith, h))
+  id-is s l k h =
+      sym (getD-map (idOf (taken s)) (slotsOfShape s l) k noSlot 0 (rw (length-shape s l) h))
+      ∙ ap (λ (z : List ℕ). getD z k 0) (ids-by-name s l)
+      ∙ getD-up-to (size s) (λ k. getD ids (at + k) 0) k 0 h
 
 -- ---- what the lookups hand back
 
@@ -60,7 +71,7 @@ module _ (es : List Entry) (few : length es ≤ layout.mostShapes) (ids : List �
   clear : (i : ℕ) (s : Shape) → before s es i < layout.shapesIn (kindFor s) (layoutOf es) → lookTold (kindFor s) (layoutOf es) (length ids) (before s es i) ≡ passed
   clear i s = look-passes (kindFor s) (layoutOf es) (length ids) (before s es i) (possible es few) (omega (arith, long, length-slots es))
 
-  handed-back : (i : ℕ) (s : Shape) → Declares es i s → HandsIds es ids i (taken ids (firstSlot s es i) s)
+  pub handed-back : (i : ℕ) (s : Shape) → Declares es i s → HandsIds es ids i (taken ids (firstSlot s es i) s)
   unfolding pointIds circleIds arcSlotIds
   handed-back i point d = answered-passed reasonNumber PI.Refused _ _ (clear i point (before-inside es i point d))
   handed-back i circle d = answered-passed reasonNumber CI.Refused _ _ (clear i circle (before-inside es i circle d))

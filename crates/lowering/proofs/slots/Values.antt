@@ -1,17 +1,17 @@
 -- Each slot of a fine drawing starts at its component's guess: the slot belongs to a part, and the part has one guess. Assumes nothing.
 use mathlib.Core.Path.{_≡_, refl, sym, ap, _∙_, subst}
 use mathlib.Core.Bool.{Bool, true, false, cond}
-use mathlib.Core.List.{List, [], _∷_, _++_, map, map-append, List·Memᴰ}
+use mathlib.Core.List.{List, [], _∷_, _++_, List·Memᴰ}
 use Prim.Native.Nat.{ℕ, _<_}
 use lib.Dec.{eqb}
 use lib.ListN.{length, getD, length-map}
-use lib.Ieee.{Float, nan, binary64, ofBits}
+use lib.Ieee.{nan, binary64, ofBits}
 use Rattle.refusal.specs.First.{EachBelow}
 use Rattle.record.specs.Kinds.{pairGuess, Guess}
 use Rattle.record.specs.Entry.{Label, Entry}
 use Rattle.index.specs.Labels.{nameNo}
-use Rattle.drawing.specs.Needs.{Shape, point, circle, arc, Part, parts}
-use Rattle.lowering.specs.Slots.{Slot, slot, x-axis, y-axis, no-axis, slotsOfPart, slotsOfShape, slotsOf, slots, numberFor, startOf, valuesOf}
+use Rattle.drawing.specs.Needs.{Shape, Part, parts}
+use Rattle.lowering.specs.Slots.{Slot, slot, x-axis, y-axis, no-axis, slotsOfPart, slotsOfShape, slots, numberFor, startOf, valuesOf}
 use Rattle.lowering.specs.Demand.{noSlot, slotAt, Starts}
 use Rattle.ground.proofs.Pieces.{Each, each-at, each-flat, each-mem, getD-map}
 use Rattle.lowering.proofs.drawing.Counts.{length-shape}
@@ -64,10 +64,3 @@ module _ (es : List Entry) where
   pub value-at : (j : ℕ) → j < length (slots es) → getD (valuesOf es) j nan ≡ startOf es (slotAt es j)
   unfolding valuesOf
   value-at j h = getD-map (startOf es) (slots es) j noSlot nan h
-
-  -- all points, then circles, then arcs
-  pub values-parts : valuesOf es ≡ map (startOf es) (slotsOf point es) ++ (map (startOf es) (slotsOf circle es) ++ map (startOf es) (slotsOf arc es))
-  unfolding valuesOf slots
-  values-parts =
-      map-append (startOf es) (slotsOf point es) (slotsOf circle es ++ slotsOf arc es)
-      ∙ ap (λ (l : List Float). map (startOf es) (slotsOf point es) ++ l) (map-append (startOf es) (slotsOf circle es) (slotsOf arc es))

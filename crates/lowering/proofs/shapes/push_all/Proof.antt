@@ -1,4 +1,5 @@
 -- `lowering::shapes::push_all` meets its contract: after i turns the shapes of the first i entries are pushed. Assumes nothing.
+use mathlib.Core.Path.{refl}
 use native.Mathlib.Omega.{arith}
 use borrow.Author.Needs.{needs}
 use Prim.Native.Nat.{_-_}
@@ -6,7 +7,7 @@ use Rattle.record.specs.Decode.{countOf}
 use Rattle.index.specs.Labels.{drawn}
 use Rattle.index.proofs.Drawn.{drawn-length}
 use Rattle.layout.specs.Push.{state}
-use Rattle.lowering.proofs.slots.Steps.{Pushes, pushes-start, pushes-turn, pushes-end}
+use Rattle.lowering.proofs.slots.Steps.{Pushes, pushes-turn, pushes-end}
 use Rattle.lowering.proofs.shapes.push_all.Statement.{statement}
 use Rattle.lowering.proofs.shapes.push_all.Tie as tie
 
@@ -17,7 +18,7 @@ abbrev μ-loop : tie.MeasureT-loop
 μ-loop text records chains kind ids₀ values₀ n last₀ i₀ ids values last i = countOf records - i
 
 loop-holds : tie.Need-loop-holds Inv-loop μ-loop
-loop-holds c = pushes-start
+loop-holds c = record { left = refl; ids-long = refl; values-long = refl }
 
 loop-again : tie.Need-loop-again Inv-loop μ-loop
 loop-again c =
