@@ -214,7 +214,7 @@ module _ (es : List Entry) (w : Fine es) (next i : ℕ) (h : i < length es) (u :
   worked-out q g = worked es w next e q (w .sound i h) u g (w .met i h u q g)
 
   -- it has as many ids as the table tells, and eight at most
-  ids-count : length (flat (namedIds es next e) (e .labels)) ≡ idsOfKind (e .kind)
+  pub ids-count : length (flat (namedIds es next e) (e .labels)) ≡ idsOfKind (e .kind)
   ids-count =
       sum-flat (namedIds es next e) (idsAt (e .kind)) (e .labels) []
       (λ q g. let k = worked-out q (rw label-count at g) in rw (k .ids-are, length-onward _ (k .count)) (k .wide))
