@@ -19,7 +19,7 @@ use Rattle.record.specs.Kinds.{Kind, kinds, kindAt, noKind, none, pair}
 use Rattle.record.specs.Record.{recordBytes, mark, firstGuess, labelPlaces, longestText}
 use Rattle.record.specs.Decode.{decode}
 use Rattle.record.specs.Entry.{Entry, noEntry, labelNo, named, entryOf, noView, viewOf}
-use Rattle.record.specs.Sound.{guessEnd, guessZeros, Placed, Framed, Known, Third, Spelled, Sound, Good, spelledTest, placedTest, framedTest, fieldsTest, soundTest, goodTest}
+use Rattle.record.specs.Sound.{guessEnd, guessZeros, Placed, Framed, Known, Spelled, Sound, Good, spelledTest, placedTest, framedTest, fieldsTest, soundTest, goodTest}
 use Rattle.record.proofs.Spelled.{says-spelled}
 use Rattle.record.proofs.UpTo.{length-up-to, getD-up-to}
 
@@ -67,9 +67,6 @@ says-framed text b =
 abbrev hasLabels : ℕ → Bool
 hasLabels k = not (ltb 0 k) || ltb 0 (kindAt k .labels)
 
-all-have : allBelow (length kinds) hasLabels ≡ true
-all-have = refl
-
 known-of : (k : ℕ) → 0 < kindAt k .labels → Known k
 known-of zero h = absurd (not-suc-le-zero h)
 known-of (suc k) h =
@@ -81,31 +78,24 @@ known-of (suc k) h =
 
 pub says-known : (k : ℕ) → Says (ltb 0 (kindAt k .labels)) (Known k)
 says-known k =
-    record {
-      so = λ e. known-of k (ltb-true 0 (kindAt k .labels) e);
-      back = λ h. says-if (says-lt 0 k) says-so .so (says-all hasLabels _ (λ j. says-so) (length kinds) .so all-have k (h .1)) (h .0);
-    }
+    let all = says-all hasLabels _ (λ j. says-so) (length kinds) .so refl in
+    record { so = λ e. known-of k (ltb-true 0 (kindAt k .labels) e); back = λ h. says-if (says-lt 0 k) says-so .so (all k (h .1)) (h .0) }
 
 -- ---- what the bytes say
-
--- the fields that a kind allows
-pub says-allowed : (kind third count x y : ℕ) → Says (fieldsTest (kindAt kind) third count x y)
-    (Known kind × (Third kind third × ((count ≡ kindAt kind .labels) × ((kindAt kind .number ≡ none → x ≡ 0) × ((kindAt kind .number ≡ pair → ⊥) → y ≡ 0)))))
-says-allowed kind third count x y =
-    let k = kindAt kind in
-    says-and (says-known kind)
-    (says-and (says-and (says-le third (k .thirds)) (says-if (says-lt 0 (k .thirds)) (says-lt 0 third)))
-    (says-and (says-eq count (k .labels))
-    (says-and (says-if (says-eq (k .number) none) (says-eq x 0)) (says-unless (says-eq (k .number) pair) (says-eq y 0)))))
 
 pub says-sound : (e : Entry) → Says (soundTest e) (Sound e)
 unfolding soundTest
 says-sound e =
+    let k = kindAt (e .kind) in
     says-iff
     (λ w. record { known = w .0 .0; third = w .0 .1 .0; count = w .0 .1 .1 .0; spelled = w .1; no-x = w .0 .1 .1 .1 .0; no-y = w .0 .1 .1 .1 .1 })
     (λ s. ((s .known, (s .third, (s .count, (s .no-x, s .no-y)))), s .spelled))
-    (says-and (says-allowed (e .kind) (e .third) (length (e .labels)) (e .x) (e .y))
-    (says-all _ _ (λ q. says-spelled (labelNo e q) (kindAt (e .kind) .dotted)) (length (e .labels))))
+    (says-and
+    (says-and (says-known (e .kind))
+    (says-and (says-and (says-le (e .third) (k .thirds)) (says-if (says-lt 0 (k .thirds)) (says-lt 0 (e .third))))
+    (says-and (says-eq (length (e .labels)) (k .labels))
+    (says-and (says-if (says-eq (k .number) none) (says-eq (e .x) 0)) (says-unless (says-eq (k .number) pair) (says-eq (e .y) 0))))))
+    (says-all _ _ (λ q. says-spelled (labelNo e q) (k .dotted)) (length (e .labels))))
 
 pub says-good : (text b : List ℕ) → Says (goodTest text b) (Good text b)
 unfolding goodTest

@@ -1,10 +1,10 @@
 -- What asking a record answers, case by case. Assumes nothing.
 use mathlib.Core.Path.{_≡_, refl, sym, ap, _∙_}
 use mathlib.Core.Bool.{true, false, _&&_}
-use mathlib.Core.List.{List, []}
-use Prim.Native.Nat.{ℕ, _-_, _≤_, _<_}
+use mathlib.Core.List.{List}
+use Prim.Native.Nat.{ℕ, _≤_, _<_}
 use native.Mathlib.Omega.{arith}
-use lib.Dec.{eqb}
+use lib.Dec.{eqb, ltb}
 use borrow.Author.Tests.{lt-ltb, le-ltb}
 use Rattle.refusal.proofs.Says.{refuted, stable, says-and, says-eq}
 use Rattle.record.specs.Record.{labelPlaces}
@@ -31,17 +31,16 @@ module _ (text b : List ℕ) where
   -- ---- labels
 
   module _ (q : ℕ) where
-    empty : labelOf text b q ≡ [] → labelFrom text b q ≡ 0 → Names text b q noView
-    empty e z = record { inside = omega arith; starts = sym z; is = sym e }
+    empty : (goodTest text b && ltb q (decode b .count)) ≡ false → Names text b q noView
+    unfolding labelOf labelFrom
+    empty e = record { inside = omega arith; starts = rw e refl; is = rw e refl }
 
     pub no-record : (Good text b → ⊥) → Names text b q noView
-    unfolding labelOf labelFrom
-    no-record f = empty (rw (refuted (says-good text b) f) refl) (rw (refuted (says-good text b) f) refl)
+    no-record f = empty (rw (refuted (says-good text b) f) refl)
 
     module _ (g : Good text b) where
       pub no-label : (r : Record) → r ≡ decode b → r .count ≤ q → Names text b q noView
-      unfolding labelOf labelFrom
-      no-label r e h = empty (rw (says-good text b .back g, le-ltb q (decode b .count) (rw e at h)) refl) (rw (says-good text b .back g, le-ltb q (decode b .count) (rw e at h)) refl)
+      no-label r e h = empty (rw (says-good text b .back g, le-ltb q (decode b .count) (rw e at h)) refl)
 
       -- a label that is there lies inside the text
       module _ (r : Record) (e : r ≡ decode b) (h : q < r .count) where

@@ -1,7 +1,7 @@
 -- The laws of the list f 0, f 1, .., up to a count: its length, what stands at a place, and which lists are such a list. And what holds of each
 -- label place of a record. Assumes nothing.
-use mathlib.Core.Path.{_≡_, refl, ap, _∙_, subst}
-use mathlib.Core.List.{List, [], _∷_, _++_, map}
+use mathlib.Core.Path.{_≡_, refl, ap, _∙_}
+use mathlib.Core.List.{List, [], _∷_, _++_, map, map-id}
 use Prim.Native.Nat.{ℕ, zero, suc, _+_, _<_}
 use native.Mathlib.Nat.{le-of-suc-le-suc, not-suc-le-zero}
 use native.Mathlib.Omega.{arith}
@@ -40,11 +40,7 @@ module _ {A : Type 0} where
 
   -- a list by what stands at its places
   pub up-to-list : (n : ℕ) (l : List A) (d : A) (f : ℕ → A) → length l ≡ n → EachBelow n (λ q. f q ≡ getD l q d) → upTo n f ≡ l
-  up-to-list n l d f e h = up-to-same n f (λ q. getD l q d) h ∙ subst (λ (m : ℕ). upTo m (λ q. getD l q d) ≡ l) e (places l d)
-    where
-      places : (xs : List A) (d : A) → upTo (length xs) (λ q. getD xs q d) ≡ xs
-      places [] d = refl
-      places (x ∷ xs) d = ap (λ (t : List A). x ∷ t) (places xs d)
+  up-to-list n l d f e h = up-to-same n f (λ q. getD l q d) h ∙ rw (← e) (up-to-map l d (λ x. x) ∙ map-id l)
 
 -- the label places one by one
 pub each-place : (P : ℕ → Type 0) → P 0 → P 1 → P 2 → P 3 → EachBelow labelPlaces P

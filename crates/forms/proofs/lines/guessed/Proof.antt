@@ -2,6 +2,7 @@
 use borrow.Author.Needs.{needs}
 use Rattle.forms.specs.Forms.{guessedOn}
 use Rattle.text.proofs.Laws.{taken}
+use Rattle.forms.proofs.Stands.{line-of}
 use Rattle.forms.proofs.lines.guessed.Statement.{statement}
 use Rattle.forms.proofs.lines.guessed.Tie as tie
 
@@ -14,12 +15,7 @@ returns c =
 returns-2 : tie.Need-returns-2
 unfolding guessedOn
 returns-2 c =
-    rw (
-      ← c .before .before .before .before .parse-point .ensures,
-      c .before .before .enum-told .given .1,
-      ← c .before .parse-number .ensures,
-      c .labelled2 .ensures,
-    )
+    rw (← c .before .before .before .before .parse-point .ensures, c .before .before .enum-told .given .1) (line-of (cc) (cc))
 
 pub guessed-spec : {M : Type 1} → statement M
 guessed-spec = tie.close (tie.spec (λ c κs. search needs) (λ c. search needs) (λ c κs. search needs) returns (λ c κs. search needs) (λ c κs. search needs) returns-2)

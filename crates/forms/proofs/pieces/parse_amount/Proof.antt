@@ -7,37 +7,17 @@ use Rattle.forms.proofs.pieces.parse_amount.Tie as tie
 
 returns-2 : tie.Need-returns-2
 unfolding amountOn
-returns-2 c =
-    rw (
-      ne-eqb _ _ (c .before .before .before .before .if1 .left),
-      ← c .before .before .before .around .ensures,
-      eq-eqb _ _ (c .before .before .if2 .taken),
-      ← c .before .parse-number .ensures,
-    )
-    (c .plain-amount .ensures)
+returns-2 c = rw (ne-eqb _ _ (c .before .before .before .before .if1 .left), eq-eqb _ _ (c .before .before .if2 .taken)) (cc)
 
 returns-3 : tie.Need-returns-3
 unfolding amountOn
 returns-3 c =
-    rw (
-      ne-eqb _ _ (c .before .before .before .before .before .if1 .left),
-      ← c .before .before .before .before .around .ensures,
-      ne-eqb _ _ (c .before .before .before .if2 .left),
-      eq-eqb _ _ (c .before .before .if3 .taken),
-      ← c .before .parse-number-expr .ensures,
-    )
-    (c .plain-amount2 .ensures)
+    rw (ne-eqb _ _ (c .before .before .before .before .before .if1 .left), ne-eqb _ _ (c .before .before .before .if2 .left), eq-eqb _ _ (c .before .before .if3 .taken)) (cc)
 
 returns-4 : tie.Need-returns-4
 unfolding amountOn
 returns-4 c =
-    rw (
-      ne-eqb _ _ (c .before .before .before .before .if1 .left),
-      ← c .before .before .before .around .ensures,
-      ne-eqb _ _ (c .before .before .if2 .left),
-      ne-eqb _ _ (c .before .if3 .left),
-    )
-    (c .parse-angle .ensures)
+    rw (ne-eqb _ _ (c .before .before .before .before .if1 .left), ne-eqb _ _ (c .before .before .if2 .left), ne-eqb _ _ (c .before .if3 .left)) (cc)
 
 pub parse-amount-spec : {M : Type 1} → statement M
 unfolding amountOn

@@ -18,14 +18,10 @@ abbrev μ-loop : tie.MeasureT-loop
 μ-loop text i₀ i = length text - i
 
 loop-again : tie.Need-loop-again Inv-loop μ-loop
-loop-again c =
-    let l = c .before .before .before .loop in
-    l .inv ∙ runTo-more (λ b. ltb b 128) _ (l .i) (search needs) (lt-ltb _ _ (c .if2 .taken))
+loop-again c = c .before .before .before .loop .inv ∙ runTo-more (λ b. ltb b 128) _ _ (search needs) (lt-ltb _ _ (c .if2 .taken))
 
 returns-2 : tie.Need-returns-2 Inv-loop μ-loop
-returns-2 c =
-    let l = c .before .before .before .loop in
-    sym (l .inv ∙ runTo-stop (λ b. ltb b 128) _ (l .i) (search needs) (le-ltb _ _ (c .if2 .left)))
+returns-2 c = sym (c .before .before .before .loop .inv ∙ runTo-stop (λ b. ltb b 128) _ _ (search needs) (le-ltb _ _ (c .if2 .left)))
 
 returns-3 : tie.Need-returns-3 Inv-loop μ-loop
 returns-3 c = sym (c .before .loop .inv ∙ runTo-end (λ b. ltb b 128) _ _ (c .loop-test .left))

@@ -23,8 +23,7 @@ returns-2 c = kind-of-bad _ _ (λ g. c .if2 .taken (g .framed .whole))
 
 returns-3 : tie.Need-returns-3
 returns-3 c =
-    let a = c .before .before .before .before .before .before .before .args in
-    kind-of-bad _ _ (λ g. fails (says-framed (a .text .now) (a .b .now)) (sym (c .before .framed .ensures) ∙ not-true _ (c .if3 .taken)) (g .framed))
+    kind-of-bad _ _ (λ g. fails (says-framed _ _) (sym (c .before .framed .ensures) ∙ not-true _ (c .if3 .taken)) (g .framed))
 
 -- the entry, from behind the test of the frame and from behind the last call
 abbrev start3 : tie.Else3 → tie.Start
@@ -35,9 +34,7 @@ start-last c = start3 (c .before .before .before)
 
 -- behind the test of the frame
 held : (c : tie.Else3) → Framed (start3 c .args .text .now) (start3 c .args .b .now)
-held c =
-    let a = start3 c .args in
-    says-framed (a .text .now) (a .b .now) .so (sym (c .before .framed .ensures) ∙ not-false _ (c .if3 .left))
+held c = says-framed _ _ .so (sym (c .before .framed .ensures) ∙ not-false _ (c .if3 .left))
 
 spelled-all-requires : tie.Need-spelled-all-requires
 spelled-all-requires c κs = rw (c .before .before .before .before .fields .ensures) (held (c .before .before) .placed)
@@ -45,12 +42,11 @@ spelled-all-requires c κs = rw (c .before .before .before .before .fields .ensu
 -- the last test
 last : (c : tie.After-spelled-all) → Says (c .before .allowed .result && c .spelled-all .result) (Good (start-last c .args .text .now) (start-last c .args .b .now))
 last c =
-    let a = start-last c .args in
     let r = c .before .before .before .before .before .fields in
     let k = r .result .kind in
     let dotted = looked-same _ k _ _ (start-last c .pre) (c .before .before .look .ensures) with-point (dotted-is k) in
     says-fields _ _ (omega arith) (held (c .before .before .before)) (r .result) (r .ensures) _ _ (c .before .allowed .ensures)
-    (c .spelled-all .ensures ∙ ap (spelledAll (a .text .now) (r .result)) dotted)
+    (c .spelled-all .ensures ∙ ap (spelledAll _ (r .result)) dotted)
 
 returns-4 : tie.Need-returns-4
 returns-4 c =
