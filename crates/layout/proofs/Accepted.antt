@@ -21,7 +21,7 @@ use Rattle.layout.specs.Run.{Act, push, done, act, takes, run, taken, ru
 use Rattle.refusal.specs.First.{passed}
 use Rattle.refusal.proofs.Once.{answered-passed}
 use Rattle.layout.proofs.Laws.{Can, can-be, Fits, fits-passes, done-passes}
-use Rattle.layout.proofs.Runs.{Kept, kept-filled, kept-act, kept-laid, kept-empty, ids-length, values-length}
+use Rattle.layout.proofs.Runs.{Kept, kept-filled, kept-act, kept-laid, kept-empty}
 
 -- the layout with n more of a kind
 abbrev more : ShapeKind → ℕ → Layout → Layout
@@ -52,8 +52,6 @@ module _ (first : State) where
   free-fits : (k : ShapeKind) (n : ℕ) (xs : List Shape) (s : State) → Kept first xs s → Free k (suc n) (s .layout) → Fits k (s .layout) (s .next) (length (s .ids)) (length (s .values))
   free-fits k n xs s h f =
       let e = suc-mul n (sizeOf k) in
-      let i = ids-length first xs s h in
-      let v = values-length first xs s h in
       search needs
 
   free-more : (k : ShapeKind) (n : ℕ) (l : Layout) → Free k (suc n) l → Free k n (withOne k l)
