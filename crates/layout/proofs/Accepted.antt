@@ -44,6 +44,7 @@ module _ (first : State) where
   record Free (k : ShapeKind) (n : ℕ) (l : Layout) : Type 0 where
     be : Can l
     due : stageNumber (l .stage) ≡ stageDue k
+    not-last : stageNumber (l .stage) < 3
     room : shapesIn k l + n ≤ mostShapes
     in-ids : slotCount l + n * sizeOf k ≤ length (first .ids)
     in-values : slotCount l + n * sizeOf k ≤ length (first .values)
@@ -67,18 +68,13 @@ module _ (first : State) where
     took : (rest : List Act) → taken (map push shapes ++ (done ∷ rest)) s ≡ shapes ++ taken rest last
     went : (rest : List Act) → run (map push shapes ++ (done ∷ rest)) s ≡ run rest last
 
-  due-small : (k : ShapeKind) → stageDue k < 3
-  due-small K.Point = omega arith
-  due-small K.Circle = omega arith
-  due-small K.Arc = omega arith
-
   module _ {X : Type 0} (make : X → Shape) (k : ShapeKind) (is : (x : X) → kindOf (make x) ≡ k) where
     leg : (xs : List X) (ys : List Shape) (s : State) → Kept first ys s → Free k (length xs) (s .layout) → Leg k (map make xs) ys s
     unfolding run taken
     leg [] ys s h f =
         record {
           last = act done s;
-          layout-is = answered-passed reasonNumber (λ r. s .layout) (doneTold (s .layout)) (stepped (s .layout)) (done-passes _ (can-be _ (f .be)) (λ e. omega (arith, due-small k, f .due))) ∙ ap stepped (more-none k (s .layout));
+          layout-is = answered-passed reasonNumber (λ r. s .layout) (doneTold (s .layout)) (stepped (s .layout)) (done-passes _ (can-be _ (f .be)) (λ e. omega (arith, f .not-last))) ∙ ap stepped (more-none k (s .layout));
           keeps = kept-act first done ys s h;
           took = λ rest. refl;
           went = λ rest. refl;
