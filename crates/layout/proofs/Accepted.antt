@@ -20,7 +20,7 @@ use Rattle.layout.specs.Push.{State, state, toldIn, filled, stepped}
 use Rattle.layout.specs.Run.{Act, push, done, act, takes, run, taken, runOf, Room, AllIn}
 use Rattle.refusal.specs.First.{passed}
 use Rattle.refusal.proofs.Once.{answered-passed}
-use Rattle.layout.proofs.Laws.{Can, can-be, Fits, fits-passes, done-passes}
+use Rattle.layout.proofs.Laws.{by-kind, Can, can-be, Fits, fits-passes, done-passes}
 use Rattle.layout.proofs.Runs.{Kept, kept-filled, kept-act, kept-laid, kept-empty}
 
 -- the layout with n more of a kind
@@ -56,9 +56,7 @@ module _ (first : State) where
       search needs
 
   free-more : (k : ShapeKind) (n : ℕ) (l : Layout) → Free k (suc n) l → Free k n (withOne k l)
-  free-more K.Point n l f = search needs
-  free-more K.Circle n l f = search needs
-  free-more K.Arc n l f = search needs
+  free-more k n l = by-kind (λ k. Free k (suc n) l → Free k n (withOne k l)) (λ f. search needs) (λ f. search needs) (λ f. search needs) k
 
   -- shapes of a kind, and `done` after them, with whatever follows
   record Leg (k : ShapeKind) (shapes ys : List Shape) (s : State) : Type 0 where

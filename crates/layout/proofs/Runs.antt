@@ -17,7 +17,7 @@ use Rattle.layout.specs.Push.{State, state, over, onward, toldIn, filled
 use Rattle.layout.specs.Run.{Act, push, done, act, takes, run, taken, allComponents, howMany, Laid}
 use Rattle.layout.proofs.Onward.{length-onward, getD-onward, onward-add, over-front}
 use Rattle.refusal.proofs.Once.{answered-pair}
-use Rattle.layout.proofs.Laws.{Fits, fits}
+use Rattle.layout.proofs.Laws.{by-kind, Fits, fits}
 
 -- ---- shapes
 
@@ -35,25 +35,15 @@ many-append k [] ys = omega arith
 many-append k (x ∷ xs) ys = rw (many-append k xs ys) (omega arith)
 
 pub slots-more : (k : ShapeKind) (l : Layout) → slotCount (withOne k l) ≡ slotCount l + sizeOf k
-slots-more K.Point l = omega arith
-slots-more K.Circle l = omega arith
-slots-more K.Arc l = omega arith
+slots-more k l = by-kind (λ k. slotCount (withOne k l) ≡ slotCount l + sizeOf k) (omega arith) (omega arith) (omega arith) k
 
 count-more : (k : ShapeKind) (shape : Shape) (l : Layout) → shapesIn k (withOne (kindOf shape) l) ≡ shapesIn k l + howMany k (shape ∷ [])
-count-more K.Point (point p) l = refl
-count-more K.Point (circle c) l = omega arith
-count-more K.Point (arc a) l = omega arith
-count-more K.Circle (point p) l = omega arith
-count-more K.Circle (circle c) l = refl
-count-more K.Circle (arc a) l = omega arith
-count-more K.Arc (point p) l = omega arith
-count-more K.Arc (circle c) l = omega arith
-count-more K.Arc (arc a) l = refl
+count-more k (point p) l = by-kind (λ k. shapesIn k (withOne K.Point l) ≡ shapesIn k l + howMany k (point p ∷ [])) refl (omega arith) (omega arith) k
+count-more k (circle c) l = by-kind (λ k. shapesIn k (withOne K.Circle l) ≡ shapesIn k l + howMany k (circle c ∷ [])) (omega arith) refl (omega arith) k
+count-more k (arc a) l = by-kind (λ k. shapesIn k (withOne K.Arc l) ≡ shapesIn k l + howMany k (arc a ∷ [])) (omega arith) (omega arith) refl k
 
 count-stepped : (k : ShapeKind) (l : Layout) → shapesIn k (stepped l) ≡ shapesIn k l
-count-stepped K.Point l = refl
-count-stepped K.Circle l = refl
-count-stepped K.Arc l = refl
+count-stepped k l = by-kind (λ k. shapesIn k (stepped l) ≡ shapesIn k l) refl refl refl k
 
 -- ---- what a run keeps
 
@@ -127,9 +117,7 @@ module _ (first : State) where
       }
 
 none : (k : ShapeKind) → shapesIn k empty ≡ 0
-none K.Point = refl
-none K.Circle = refl
-none K.Arc = refl
+none = by-kind (λ k. shapesIn k empty ≡ 0) refl refl refl
 
 module _ (next : ℕ) (ids : List ℕ) (values : List Float) where
   pub kept-empty : Kept (state empty next ids values) [] (state empty next ids values)
