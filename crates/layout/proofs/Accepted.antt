@@ -100,15 +100,12 @@ module _ (next : ℕ) (ids : List ℕ) (values : List Float) (ps : List Point) (
   first = state empty next ids values
 
   after-points : Leg first K.Point (map point ps) [] first
-  after-points =
-      leg first point K.Point (λ p. refl) ps [] first (kept-empty next ids values)
-      (search needs)
+  after-points = leg first point K.Point (λ p. refl) ps [] first (kept-empty next ids values) (search needs)
 
   after-circles : Leg first K.Circle (map circle cs) (map point ps) (after-points .last)
   after-circles =
       let n = length-map ps point in
-      leg first circle K.Circle (λ c. refl) cs (map point ps) (after-points .last) (after-points .keeps)
-      (rw (after-points .layout-is) (search needs))
+      leg first circle K.Circle (λ c. refl) cs (map point ps) (after-points .last) (after-points .keeps) (rw (after-points .layout-is) (search needs))
 
   after-arcs : Leg first K.Arc (map arc xs) (map point ps ++ map circle cs) (after-circles .last)
   after-arcs =
