@@ -19,6 +19,15 @@ use faults.{Named, Meets, Guessed, AnyUnguessed, WithoutGuess, Fault, malformed,
 use Rattle.drawing.specs.Check as check
 use check.{twice, namedAt, named, meets, guessAt, guessed, anyUnguessed, wrongPlace, wrongLabelTest, noSuchPartTest, lacks, withoutGuessTest, test, checkOf}
 
+-- each fault stands in the order
+pub listed : (f : Fault) → List·Memᴰ f order
+listed malformed = List·Memᴰ·head refl
+listed declared-twice = List·Memᴰ·tail (List·Memᴰ·head refl)
+listed wrong-label = List·Memᴰ·tail (List·Memᴰ·tail (List·Memᴰ·head refl))
+listed no-such-part = List·Memᴰ·tail (List·Memᴰ·tail (List·Memᴰ·tail (List·Memᴰ·head refl)))
+listed guessed-twice = List·Memᴰ·tail (List·Memᴰ·tail (List·Memᴰ·tail (List·Memᴰ·tail (List·Memᴰ·head refl))))
+listed without-guess = List·Memᴰ·tail (List·Memᴰ·tail (List·Memᴰ·tail (List·Memᴰ·tail (List·Memᴰ·tail (List·Memᴰ·head refl)))))
+
 -- ---- labels
 
 module _ (es : List Entry) where
@@ -91,15 +100,6 @@ module _ (es : List Entry) where
   pub check-refuses : (f : Fault) (i : ℕ) → (checkOf es ≡ refused f i) ↔ Told (Holds es) (places es) order f i
   unfolding checkOf
   check-refuses f i = refused-iff (test es) (Holds es) agree (places es) order f i
-
-  -- each fault stands in the order
-  listed : (f : Fault) → List·Memᴰ f order
-  listed malformed = List·Memᴰ·head refl
-  listed declared-twice = List·Memᴰ·tail (List·Memᴰ·head refl)
-  listed wrong-label = List·Memᴰ·tail (List·Memᴰ·tail (List·Memᴰ·head refl))
-  listed no-such-part = List·Memᴰ·tail (List·Memᴰ·tail (List·Memᴰ·tail (List·Memᴰ·head refl)))
-  listed guessed-twice = List·Memᴰ·tail (List·Memᴰ·tail (List·Memᴰ·tail (List·Memᴰ·tail (List·Memᴰ·head refl))))
-  listed without-guess = List·Memᴰ·tail (List·Memᴰ·tail (List·Memᴰ·tail (List·Memᴰ·tail (List·Memᴰ·tail (List·Memᴰ·head refl)))))
 
   -- it passes exactly if no fault holds anywhere
   pub check-passes : (checkOf es ≡ passed) ↔ ((f : Fault) → Nowhere (Holds es f) (places es))

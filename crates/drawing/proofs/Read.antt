@@ -11,7 +11,7 @@ use lib.Dec.{ltb, eqb}
 use borrow.Author.Tests.{ne-eqb}
 use Rattle.ground.proofs.Lists.{NoneFrom, none-from}
 use Rattle.refusal.specs.First.{anyBelow}
-use Rattle.refusal.proofs.Says.{refuted, says-once, says-and, says-iff, says-eq, says-le, says-any}
+use Rattle.refusal.proofs.Says.{refuted, says-once, says-and, says-iff, says-eq, says-any}
 use Rattle.record.specs.Kinds.{newPoint, newCircle, newArc, pairGuess, numberGuess}
 use Rattle.record.specs.Decode.{countOf, decodeAt}
 use Rattle.record.specs.Entry.{Label, Entry, entryAt, labelNo, entryOf}
@@ -88,14 +88,8 @@ module _ (es : List Entry) (kind : ℕ) (suffix l : Label) where
   named-is : (front : Label) → front ++ suffix ≡ l → anyBelow (length es) (labelled es kind kind front) ≡ named es kind suffix l
   unfolding named namedAt labelled
   named-is front e =
-      any-same _ _ (length es) (λ j.
-      says-once
-      (says-and (says-and (says-le kind (kindNo es j)) (says-le (kindNo es j) kind)) (says-same (nameNo es j) front))
-      (says-iff
-      (λ w. ((omega (arith, w .0), omega (arith, w .0)), suffix-cancel (nameNo es j) front suffix (sym (w .1) ∙ sym e)))
-      (λ w. (omega (arith, w .0 .0, w .0 .1), sym e ∙ ap (λ (x : Label). x ++ suffix) (sym (w .1))))
-      (says-and (says-eq (kindNo es j) kind) (says-same l (nameNo es j ++ suffix))))
-      )
+      any-same _ _ (length es) (λ j. rw within-one (ap (_&&_ (eqb (kindNo es j) kind)) (says-once (says-same (nameNo es j) front) (says-iff
+      (λ w. suffix-cancel (nameNo es j) front suffix (sym w ∙ sym e)) (λ w. sym e ∙ ap (λ (x : Label). x ++ suffix) (sym w)) (says-same l (nameNo es j ++ suffix))))))
 
 module _ (text bs : List ℕ) (cs : List ℕ) (kind : ℕ) (suffix l : Label) (r : ℕ) where
   pub named-found : (front : Label) → front ++ suffix ≡ l → Chained (drawn text bs) newPoint newArc cs → newPoint ≤ kind → kind ≤ newArc

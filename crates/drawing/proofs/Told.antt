@@ -12,18 +12,15 @@ use Rattle.record.specs.Entry.{Entry}
 use Rattle.record.specs.Formed.{places}
 use Rattle.drawing.specs.declared.Checked.the-variants as checked
 use Rattle.drawing.specs.Faults as faults
-use faults.{Fault, malformed, declared-twice, wrong-label, no-such-part, guessed-twice, without-guess, order, numberOf, Holds}
+use faults.{Fault, malformed, order, numberOf, Holds}
 use Rattle.drawing.specs.Check.{checkOf, countOf, answer, checkedOf}
-use Rattle.drawing.proofs.Agree.{check-refuses, check-passes}
+use Rattle.ground.proofs.Pieces.{each-has}
+use Rattle.drawing.proofs.Agree.{listed, check-refuses, check-passes}
 
 -- a fault back from its number
 fault-back : (f : Fault) → byNumber numberOf (λ g. g) malformed order (numberOf f) ≡ f
-fault-back malformed = refl
-fault-back declared-twice = refl
-fault-back wrong-label = refl
-fault-back no-such-part = refl
-fault-back guessed-twice = refl
-fault-back without-guess = refl
+fault-back f =
+    each-has (λ (f : Fault). byNumber numberOf (λ g. g) malformed order (numberOf f) ≡ f) order f (refl, (refl, (refl, (refl, (refl, (refl, tt)))))) (listed f)
 
 numbers-apart : (f g : Fault) → numberOf f ≡ numberOf g → f ≡ g
 numbers-apart f g e = sym (fault-back f) ∙ ap (byNumber numberOf (λ g. g) malformed order) e ∙ fault-back g

@@ -72,22 +72,18 @@ module _ (es : List Entry) (low high : ℕ) (cs : List ℕ) (l : Label) where
 
 -- ---- tables that hold the chains
 
--- what `chain` makes where there is room
-made-chained : {es : List Entry} {low high : ℕ} {cs after : List ℕ} {answer : Bool} → Made es low high cs answer after → answer ≡ true → Chained es low high after
-made-chained {es} {low} {high} {cs} {after} m e =
-    let r : room (length es) (length cs) ≡ true = sym (m .told) ∙ e in
+-- what `chain` makes of a table that has room for the most records of a page
+pub chained : {es : List Entry} {low high : ℕ} {cs after : List ℕ} {answer : Bool} → length es ≤ mostRecords → Made es low high cs answer after → length cs ≡ chains + mostRecords
+    → Chained es low high after
+chained {es} {low} {high} {cs} {after} few m long =
+    let r : room (length es) (length cs) ≡ true = says-room (length es) (length cs) .back (omega (arith, few), omega (arith, few, long)) in
     let is : after ≡ tableOf es low high cs = rw r at (m .table) in
-    let long : length after ≡ length cs = ap length is ∙ table-long es low high cs (says-room (length es) (length cs) .so r .1) in
+    let same : length after ≡ length cs = ap length is ∙ table-long es low high cs (omega (arith, few, long)) in
     record {
-      roomy = rw long r;
+      roomy = rw same r;
       head = λ h b. rw is (table-head es low high cs h b);
       next = λ i b. rw is (table-next es low high cs i b);
     }
-
--- of a table that has room for the most records of a page
-pub chained : {es : List Entry} {low high : ℕ} {cs after : List ℕ} {answer : Bool} → length es ≤ mostRecords → Made es low high cs answer after → length cs ≡ chains + mostRecords
-    → Chained es low high after
-chained {es = es} {cs = cs} few m long = made-chained m (m .told ∙ says-room (length es) (length cs) .back (omega (arith, few), omega (arith, few, long)))
 
 module _ (es : List Entry) (lo hi low high : ℕ) (cs : List ℕ) (l : Label) (c : Chained es lo hi cs) (above : lo ≤ low) (below : high ≤ hi) where
   inside : (kind : ℕ) → within low high kind ≡ true → within lo hi kind ≡ true

@@ -20,8 +20,8 @@ use Rattle.layout.specs.Push.{State, state, toldIn, filled, stepped}
 use Rattle.layout.specs.Run.{Act, push, done, act, takes, run, taken, runOf, Room, AllIn}
 use Rattle.refusal.specs.First.{passed}
 use Rattle.refusal.proofs.Once.{answered-passed}
-use Rattle.layout.proofs.Laws.{Can, can-be, Fits, fits-passes, done-passes}
-use Rattle.layout.proofs.Runs.{Kept, kept-filled, kept-act, kept-laid, kept-empty, ids-length, values-length}
+use Rattle.layout.proofs.Laws.{by-kind, Can, can-be, Fits, fits-passes, done-passes}
+use Rattle.layout.proofs.Runs.{Kept, kept-filled, kept-act, kept-laid, kept-empty}
 
 -- the layout with n more of a kind
 abbrev more : ShapeKind → ℕ → Layout → Layout
@@ -44,6 +44,7 @@ module _ (first : State) where
   record Free (k : ShapeKind) (n : ℕ) (l : Layout) : Type 0 where
     be : Can l
     due : stageNumber (l .stage) ≡ stageDue k
+    not-last : stageNumber (l .stage) < 3
     room : shapesIn k l + n ≤ mostShapes
     in-ids : slotCount l + n * sizeOf k ≤ length (first .ids)
     in-values : slotCount l + n * sizeOf k ≤ length (first .values)
@@ -52,14 +53,10 @@ module _ (first : State) where
   free-fits : (k : ShapeKind) (n : ℕ) (xs : List Shape) (s : State) → Kept first xs s → Free k (suc n) (s .layout) → Fits k (s .layout) (s .next) (length (s .ids)) (length (s .values))
   free-fits k n xs s h f =
       let e = suc-mul n (sizeOf k) in
-      let i = ids-length first xs s h in
-      let v = values-length first xs s h in
       search needs
 
   free-more : (k : ShapeKind) (n : ℕ) (l : Layout) → Free k (suc n) l → Free k n (withOne k l)
-  free-more K.Point n l f = search needs
-  free-more K.Circle n l f = search needs
-  free-more K.Arc n l f = search needs
+  free-more k n l = by-kind (λ k. Free k (suc n) l → Free k n (withOne k l)) (λ f. search needs) (λ f. search needs) (λ f. search needs) k
 
   -- shapes of a kind, and `done` after them, with whatever follows
   record Leg (k : ShapeKind) (shapes ys : List Shape) (s : State) : Type 0 where
@@ -69,18 +66,13 @@ module _ (first : State) where
     took : (rest : List Act) → taken (map push shapes ++ (done ∷ rest)) s ≡ shapes ++ taken rest last
     went : (rest : List Act) → run (map push shapes ++ (done ∷ rest)) s ≡ run rest last
 
-  due-small : (k : ShapeKind) → stageDue k < 3
-  due-small K.Point = omega arith
-  due-small K.Circle = omega arith
-  due-small K.Arc = omega arith
-
   module _ {X : Type 0} (make : X → Shape) (k : ShapeKind) (is : (x : X) → kindOf (make x) ≡ k) where
     leg : (xs : List X) (ys : List Shape) (s : State) → Kept first ys s → Free k (length xs) (s .layout) → Leg k (map make xs) ys s
     unfolding run taken
     leg [] ys s h f =
         record {
           last = act done s;
-          layout-is = answered-passed reasonNumber (λ r. s .layout) (doneTold (s .layout)) (stepped (s .layout)) (done-passes _ (can-be _ (f .be)) (λ e. omega (arith, due-small k, f .due))) ∙ ap stepped (more-none k (s .layout));
+          layout-is = answered-passed reasonNumber (λ r. s .layout) (doneTold (s .layout)) (stepped (s .layout)) (done-passes _ (can-be _ (f .be)) (λ e. omega (arith, f .not-last))) ∙ ap stepped (more-none k (s .layout));
           keeps = kept-act first done ys s h;
           took = λ rest. refl;
           went = λ rest. refl;
@@ -108,15 +100,12 @@ module _ (next : ℕ) (ids : List ℕ) (values : List Float) (ps : List Point) (
   first = state empty next ids values
 
   after-points : Leg first K.Point (map point ps) [] first
-  after-points =
-      leg first point K.Point (λ p. refl) ps [] first (kept-empty next ids values)
-      (search needs)
+  after-points = leg first point K.Point (λ p. refl) ps [] first (kept-empty next ids values) (search needs)
 
   after-circles : Leg first K.Circle (map circle cs) (map point ps) (after-points .last)
   after-circles =
       let n = length-map ps point in
-      leg first circle K.Circle (λ c. refl) cs (map point ps) (after-points .last) (after-points .keeps)
-      (rw (after-points .layout-is) (search needs))
+      leg first circle K.Circle (λ c. refl) cs (map point ps) (after-points .last) (after-points .keeps) (rw (after-points .layout-is) (search needs))
 
   after-arcs : Leg first K.Arc (map arc xs) (map point ps ++ map circle cs) (after-circles .last)
   after-arcs =

@@ -27,6 +27,12 @@ use Rattle.layout.specs.Push.{State, state, over, onward, toldIn, filled
 use Rattle.layout.specs.Refusals.{Reason, reasonNumber, cannot-be, wrong-stage, full, short, few-ids, no-shape, pushOrder, doneOrder, lookOrder, Rising, impossible, barsPush, barsDone, barsLook, pushTold, doneTold, lookTold}
 use Rattle.layout.proofs.Placed.{as-refused, is-passed, the-place, as-found}
 
+-- what holds of each kind holds of any
+pub by-kind : (P : ShapeKind → Type 0) → P Point → P Circle → P Arc → (k : ShapeKind) → P k
+by-kind P p c a Point = p
+by-kind P p c a Circle = c
+by-kind P p c a Arc = a
+
 -- ---- a layout that can be
 
 neither : (a b : Bool) → (a || b) ≡ false → (a ≡ false) × (b ≡ false)
@@ -56,9 +62,7 @@ small l e =
     record { points = ltb-false _ _ (one .0); circles = ltb-false _ _ (one .1); arcs = ltb-false _ _ (two .1) }
 
 pub count-small : (k : ShapeKind) (l : Layout) → Small l → shapesIn k l ≤ mostShapes
-count-small Point l s = s .points
-count-small Circle l s = s .circles
-count-small Arc l s = s .arcs
+count-small k l s = by-kind (λ k. shapesIn k l ≤ mostShapes) (s .points) (s .circles) (s .arcs) k
 
 -- ---- a push
 
@@ -215,9 +219,7 @@ module _ (k : ShapeKind) (l : Layout) (len i : ℕ) where
 
 -- the slots of a shape that is counted lie among the layout's
 pub slot-inside : (k : ShapeKind) (l : Layout) (i : ℕ) → i < shapesIn k l → slotOf k l i + sizeOf k ≤ slotCount l
-slot-inside Point l i h = omega arith
-slot-inside Circle l i h = omega arith
-slot-inside Arc l i h = omega arith
+slot-inside k l i = by-kind (λ k. i < shapesIn k l → slotOf k l i + sizeOf k ≤ slotCount l) (λ h. omega arith) (λ h. omega arith) (λ h. omega arith) k
 
 -- what is known where a shape is found
 pub record Found (k : ShapeKind) (l : Layout) (len i : ℕ) : Type 0 where

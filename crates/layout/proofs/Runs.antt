@@ -1,11 +1,11 @@
 -- After any run from an empty layout the slots hold the counter's numbers in order and the components of the shapes that were taken, and nothing past them has changed.
 -- A push that is taken lays its ids and components right after the slots so far; one that is refused changes nothing. Assumes nothing.
 use mathlib.Core.Path.{_≡_, refl, sym, _∙_, ap}
-use Prim.Native.Nat.{ℕ, _+_, _≤_, _<_}
+use Prim.Native.Nat.{ℕ, _+_, _<_}
 use borrow.Author.Needs.{needs}
 use native.Mathlib.Omega.{arith}
 use mathlib.Core.List.{List, [], _∷_, _++_, append-assoc, append-nil}
-use lib.ListN.{length, drop, getD, length-append, length-drop, List·getD-append}
+use lib.ListN.{length, drop, getD, length-append, length-take, length-drop, List·getD-append}
 use lib.Seq.{drop-at}
 use lib.Ieee.{Float, nan}
 use Rattle.layout.specs.declared.ShapeKind.{ShapeKind}
@@ -17,7 +17,7 @@ use Rattle.layout.specs.Push.{State, state, over, onward, toldIn, filled
 use Rattle.layout.specs.Run.{Act, push, done, act, takes, run, taken, allComponents, howMany, Laid}
 use Rattle.layout.proofs.Onward.{length-onward, getD-onward, onward-add, over-front}
 use Rattle.refusal.proofs.Once.{answered-pair}
-use Rattle.layout.proofs.Laws.{Fits, fits}
+use Rattle.layout.proofs.Laws.{by-kind, Fits, fits}
 
 -- ---- shapes
 
@@ -35,25 +35,15 @@ many-append k [] ys = omega arith
 many-append k (x ∷ xs) ys = rw (many-append k xs ys) (omega arith)
 
 pub slots-more : (k : ShapeKind) (l : Layout) → slotCount (withOne k l) ≡ slotCount l + sizeOf k
-slots-more K.Point l = omega arith
-slots-more K.Circle l = omega arith
-slots-more K.Arc l = omega arith
+slots-more k l = by-kind (λ k. slotCount (withOne k l) ≡ slotCount l + sizeOf k) (omega arith) (omega arith) (omega arith) k
 
 count-more : (k : ShapeKind) (shape : Shape) (l : Layout) → shapesIn k (withOne (kindOf shape) l) ≡ shapesIn k l + howMany k (shape ∷ [])
-count-more K.Point (point p) l = refl
-count-more K.Point (circle c) l = omega arith
-count-more K.Point (arc a) l = omega arith
-count-more K.Circle (point p) l = omega arith
-count-more K.Circle (circle c) l = refl
-count-more K.Circle (arc a) l = omega arith
-count-more K.Arc (point p) l = omega arith
-count-more K.Arc (circle c) l = omega arith
-count-more K.Arc (arc a) l = refl
+count-more k (point p) l = by-kind (λ k. shapesIn k (withOne K.Point l) ≡ shapesIn k l + howMany k (point p ∷ [])) refl (omega arith) (omega arith) k
+count-more k (circle c) l = by-kind (λ k. shapesIn k (withOne K.Circle l) ≡ shapesIn k l + howMany k (circle c ∷ [])) (omega arith) refl (omega arith) k
+count-more k (arc a) l = by-kind (λ k. shapesIn k (withOne K.Arc l) ≡ shapesIn k l + howMany k (arc a ∷ [])) (omega arith) (omega arith) refl k
 
 count-stepped : (k : ShapeKind) (l : Layout) → shapesIn k (stepped l) ≡ shapesIn k l
-count-stepped K.Point l = refl
-count-stepped K.Circle l = refl
-count-stepped K.Arc l = refl
+count-stepped k l = by-kind (λ k. shapesIn k (stepped l) ≡ shapesIn k l) refl refl refl k
 
 -- ---- what a run keeps
 
@@ -64,17 +54,10 @@ pub record Kept (first : State) (shapes : List Shape) (s : State) : Type 0 where
   pub next-is : s .next ≡ first .next + length (allComponents shapes)
   pub ids-are : s .ids ≡ onward (first .next) (length (allComponents shapes)) ++ drop (length (allComponents shapes)) (first .ids)
   pub values-are : s .values ≡ allComponents shapes ++ drop (length (allComponents shapes)) (first .values)
-  pub in-ids : length (allComponents shapes) ≤ length (first .ids)
-  pub in-values : length (allComponents shapes) ≤ length (first .values)
+  pub ids-length : length (s .ids) ≡ length (first .ids)
+  pub values-length : length (s .values) ≡ length (first .values)
 
 module _ (first : State) where
-  -- the lengths are as they were
-  pub ids-length : (xs : List Shape) (s : State) → Kept first xs s → length (s .ids) ≡ length (first .ids)
-  ids-length xs s h = rw (h .ids-are) (simp (length-append, length-onward, length-drop) (omega (arith, h .in-ids)))
-
-  pub values-length : (xs : List Shape) (s : State) → Kept first xs s → length (s .values) ≡ length (first .values)
-  values-length xs s h = rw (h .values-are) (simp (length-append, length-drop) (omega (arith, h .in-values)))
-
   ids-more : (gs vs : List Float) → over (onward (first .next) (length gs) ++ drop (length gs) (first .ids)) (length gs) (onward (first .next + length gs) (length vs)) ≡ onward (first .next) (length (gs ++ vs)) ++ drop (length (gs ++ vs)) (first .ids)
   ids-more gs vs =
       over-front (onward (first .next) (length gs)) (onward (first .next + length gs) (length vs)) (first .ids) (length gs) (length-onward (first .next) (length gs))
@@ -94,8 +77,8 @@ module _ (first : State) where
         next-is = rw (e, length-append gs vs) (omega (arith, h .next-is));
         ids-are = rw (e, ← h .slots, h .ids-are, h .next-is) (ids-more gs vs);
         values-are = rw (e, ← h .slots, h .values-are) (over-front gs vs (first .values) (length gs) refl ∙ rw (length-append gs vs) refl);
-        in-ids = rw (e, length-append gs vs) (omega (arith, h .slots, n, f .in-ids, ids-length xs s h));
-        in-values = rw (e, length-append gs vs) (omega (arith, h .slots, n, f .in-values, values-length xs s h));
+        ids-length = simp (length-append, length-take, length-drop, length-onward) (omega (arith, n, f .in-ids, h .ids-length));
+        values-length = simp (length-append, length-take, length-drop) (omega (arith, n, f .in-values, h .values-length));
       }
 
   kept-stepped : (xs : List Shape) (s : State) → Kept first xs s → Kept first xs (state (stepped (s .layout)) (s .next) (s .ids) (s .values))
@@ -129,18 +112,16 @@ module _ (first : State) where
         value-at = λ i b. rw (h .values-are) (List·getD-append gs (drop (length gs) (first .values)) nan i (omega (arith, h .slots)));
         ids-rest = rw (← h .slots, h .ids-are) (drop-at (onward (first .next) (length gs)) (drop (length gs) (first .ids)) (length gs) (length-onward (first .next) (length gs)));
         values-rest = rw (← h .slots, h .values-are) (drop-at gs (drop (length gs) (first .values)) (length gs) refl);
-        ids-length = ids-length xs s h;
-        values-length = values-length xs s h;
+        ids-length = h .ids-length;
+        values-length = h .values-length;
       }
 
 none : (k : ShapeKind) → shapesIn k empty ≡ 0
-none K.Point = refl
-none K.Circle = refl
-none K.Arc = refl
+none = by-kind (λ k. shapesIn k empty ≡ 0) refl refl refl
 
 module _ (next : ℕ) (ids : List ℕ) (values : List Float) where
   pub kept-empty : Kept (state empty next ids values) [] (state empty next ids values)
-  kept-empty = record { counts = none; slots = refl; next-is = omega arith; ids-are = refl; values-are = refl; in-ids = omega arith; in-values = omega arith }
+  kept-empty = record { counts = none; slots = refl; next-is = omega arith; ids-are = refl; values-are = refl; ids-length = refl; values-length = refl }
 
   pub kept : (acts : List Act) → Kept (state empty next ids values) (taken acts (state empty next ids values)) (run acts (state empty next ids values))
   kept acts = kept-run (state empty next ids values) acts [] (state empty next ids values) kept-empty

@@ -13,30 +13,15 @@ Hex n s = hexOf n ≡ bytes s
 abbrev Decimal : ℕ → String → Type 0
 Decimal n s = decimalOf n ≡ bytes s
 
-pub hex-zero : Hex 0 "0000000000000000"
-unfolding hexOf lastDigits
-hex-zero = refl
-
-pub hex-root-of-two : Hex 0x3ff6a09e667f3bcd "3ff6a09e667f3bcd"
-unfolding hexOf lastDigits
-hex-root-of-two = refl
-
-pub decimal-zero : Decimal 0 "0"
-unfolding decimalOf lastDigits widthUpTo
-decimal-zero = refl
-
-pub decimal-nine : Decimal 9 "9"
-unfolding decimalOf lastDigits widthUpTo
-decimal-nine = refl
-
-pub decimal-ten : Decimal 10 "10"
-unfolding decimalOf lastDigits widthUpTo
-decimal-ten = refl
-
-pub decimal-three-digits : Decimal 125 "125"
-unfolding decimalOf lastDigits widthUpTo
-decimal-three-digits = refl
-
-pub decimal-largest : Decimal 18446744073709551615 "18446744073709551615"
-unfolding decimalOf lastDigits widthUpTo
-decimal-largest = refl
+pub worked :
+    Hex 0 "0000000000000000"
+    -- the root of two
+    × Hex 0x3ff6a09e667f3bcd "3ff6a09e667f3bcd"
+    × Decimal 0 "0"
+    × Decimal 9 "9"
+    × Decimal 10 "10"
+    × Decimal 125 "125"
+    -- the largest
+    × Decimal 18446744073709551615 "18446744073709551615"
+unfolding hexOf decimalOf lastDigits widthUpTo
+worked = (refl, refl, refl, refl, refl, refl, refl)

@@ -3,23 +3,13 @@ use mathlib.Core.Path.{_≡_, refl}
 use lib.Ieee.{size as digits}
 use Rattle.root.specs.Function.{floorRoot, nearestRoot, scaledRoot, finiteRoot, rootOf}
 
-pub of-two : rootOf 0x4000_0000_0000_0000 ≡ 0x3ff6_a09e_667f_3bcd
+pub worked :
+    -- of 2, of -4, of -0, of plus infinity
+    (rootOf 0x4000_0000_0000_0000 ≡ 0x3ff6_a09e_667f_3bcd)
+    × (rootOf 0xc010_0000_0000_0000 ≡ 0x7ff8_0000_0000_0000)
+    × (rootOf 0x8000_0000_0000_0000 ≡ 0x8000_0000_0000_0000)
+    × (rootOf 0x7ff0_0000_0000_0000 ≡ 0x7ff0_0000_0000_0000)
+    -- of 2^-1074: 2^-537
+    × (rootOf 1 ≡ 0x1e60_0000_0000_0000)
 unfolding rootOf finiteRoot scaledRoot nearestRoot floorRoot digits
-of-two = refl
-
-pub of-minus-four : rootOf 0xc010_0000_0000_0000 ≡ 0x7ff8_0000_0000_0000
-unfolding rootOf
-of-minus-four = refl
-
-pub of-minus-zero : rootOf 0x8000_0000_0000_0000 ≡ 0x8000_0000_0000_0000
-unfolding rootOf
-of-minus-zero = refl
-
-pub of-infinity : rootOf 0x7ff0_0000_0000_0000 ≡ 0x7ff0_0000_0000_0000
-unfolding rootOf
-of-infinity = refl
-
--- 2^-537
-pub of-smallest : rootOf 1 ≡ 0x1e60_0000_0000_0000
-unfolding rootOf finiteRoot scaledRoot nearestRoot floorRoot digits
-of-smallest = refl
+worked = (refl, refl, refl, refl, refl)
