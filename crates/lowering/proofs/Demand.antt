@@ -1,6 +1,6 @@
 -- A drawing that the check passes can't go wrong later: the third demand. What the check tells of it makes lowering answer without refusal, and what
 -- is written then is what the laws of slots, values and rows say. Assumes nothing.
-use mathlib.Core.Path.{_≡_, refl, sym, ap, _∙_}
+use mathlib.Core.Path.{_≡_, refl, ap, _∙_}
 use mathlib.Core.Bool.{Bool, true, false, cond, _&&_}
 use mathlib.Core.List.{List, [], _∷_, _++_}
 use Prim.Native.Nat.{ℕ, _+_, _*_, _%_, _≤_}
@@ -25,12 +25,12 @@ use Rattle.lowering.specs.declared.Lowered.{Lowered}
 use Rattle.lowering.specs.declared.Lowered.the-variants as L
 use Rattle.lowering.specs.Slots.{slots, howMany, firstSlot, valuesOf}
 use Rattle.row.specs.Row.{encodeRows}
-use Rattle.lowering.specs.Rows.{rulesOf, rowsOf}
+use Rattle.lowering.specs.Rows.{rowsOf}
 use Rattle.lowering.specs.Lower.{lowerOf, unless, onto, roomIn, Lowers}
 use Rattle.lowering.specs.Demand.{rulesBefore, CannotGoWrong, PassedLowersWell}
 use Rattle.lowering.proofs.answer.Lacking.{lower-good}
-use Rattle.lowering.proofs.drawing.Counts.{rules-all, slot-count}
-use Rattle.lowering.proofs.drawing.Fine.{Fine, fine, passed-with}
+use Rattle.lowering.proofs.drawing.Counts.{rules-all, slot-count, passed-with}
+use Rattle.lowering.proofs.drawing.Fine.{Fine, fine}
 use Rattle.lowering.proofs.slots.Components.{one-component, slot-of}
 use Rattle.lowering.proofs.slots.Values.{starts, length-values, value-at}
 use Rattle.lowering.proofs.slots.Fields.{read-out}
@@ -105,8 +105,8 @@ pub lowers-well : PassedLowersWell
 lowers-well text bs P C A R next ids values rows checked enough r ids′ values′ rows′ call =
     let es = entries text bs in
     let p = passed-with es P C A R checked in
-    let n : length (slots es) ≡ 2 * P + 3 * C + 6 * A = rw (p .points, p .circles, p .arcs) (slot-count es) in
-    let m : length (rulesOf es) ≡ R = rules-all es ∙ sym (p .rules) in
+    let n : length (slots es) ≡ 2 * P + 3 * C + 6 * A = p .slot-number ∙ omega arith in
+    let m = p .rule-number in
     let good = lower-good es (roomIn next ids values rows) (rw (n, m) enough) (p .none-found) in
     let left : next + length (slots es) ≤ idsEnd = rw n (enough .ids-left) in
     record {

@@ -15,7 +15,11 @@ use Rattle.record.specs.Kinds.{firstRule, lastRule}
 use Rattle.record.specs.Entry.{Label, Entry, noEntry, entryAt, labelNo}
 use Rattle.index.specs.Labels.{kindNo, within}
 use Rattle.drawing.specs.Needs.{Shape, point, circle, arc, declaring}
-use Rattle.drawing.specs.Check.{countBelow}
+use Rattle.drawing.specs.declared.Checked.the-variants as checked
+use Rattle.refusal.specs.First.{Answer, passed, refused}
+use Rattle.layout.specs.Run.{slotsFor}
+use Rattle.drawing.specs.Faults.{Fault}
+use Rattle.drawing.specs.Check.{countBelow, answer, checkOf, checkedOf}
 use Rattle.lowering.specs.Slots.{slotsOfShape, labelsOf, slotsOf, slots, size, before, howMany, layoutOf}
 use Rattle.lowering.specs.Rows.{rulesOf}
 use Rattle.lowering.specs.Demand.{Declares, rulesBefore}
@@ -131,3 +135,36 @@ module _ (es : List Entry) where
     possible =
         can-be (layoutOf es)
         (record { counts = record { points = few-of point; circles = few-of circle; arcs = few-of arc }; circles-late = λ h. omega arith; arcs-late = λ h. omega arith })
+
+-- ---- from the check's answer
+
+-- a drawing is answered with its counts exactly if no fault was found
+pub record PassedWith (es : List Entry) (P C A R : ℕ) : Type 0 where
+  pub none-found : checkOf es ≡ passed
+  pub points : P ≡ howMany point es
+  pub circles : C ≡ howMany circle es
+  pub arcs : A ≡ howMany arc es
+  pub rules : R ≡ rulesBefore es (length es)
+  pub slot-number : length (slots es) ≡ slotsFor P C A
+  pub rule-number : length (rulesOf es) ≡ R
+
+pub passed-with : (es : List Entry) (P C A R : ℕ) → checkedOf es ≡ checked.Passed P C A R → PassedWith es P C A R
+unfolding checkedOf
+passed-with es P C A R e = go (checkOf es) refl e
+  where
+    go : (o : Answer Fault) → checkOf es ≡ o → answer es o ≡ checked.Passed P C A R → PassedWith es P C A R
+    go passed f e =
+        let points : P ≡ howMany point es = cc in
+        let circles : C ≡ howMany circle es = cc in
+        let arcs : A ≡ howMany arc es = cc in
+        let rules : R ≡ rulesBefore es (length es) = cc in
+        record {
+          none-found = f;
+          points = points;
+          circles = circles;
+          arcs = arcs;
+          rules = rules;
+          slot-number = rw (points, circles, arcs) (omega (arith, length-slots es));
+          rule-number = rules-all es ∙ sym rules;
+        }
+    go (refused g j) f e = absurd (let z : _≡_ {A = ℕ} 0 1 = cc in omega arith)

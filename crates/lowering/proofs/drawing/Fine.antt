@@ -8,20 +8,19 @@ use native.Mathlib.Nat.{zero-lt-suc}
 use native.Mathlib.Omega.{arith}
 use native.Mathlib.Decide.{decLt}
 use lib.ListN.{length, getD}
-use Rattle.refusal.specs.First.{Answer, passed, refused, EachBelow}
+use Rattle.refusal.specs.First.{passed, EachBelow}
 use Rattle.refusal.proofs.Says.{stable}
 use Rattle.text.specs.Text.{isAlphanum}
-use Rattle.record.specs.Kinds.{kindAt, newPoint, newCircle, newArc, firstRule, lastRule, Declaration, Rule, Guess}
+use Rattle.record.specs.Kinds.{kindAt, Declaration, Rule, Guess}
 use Rattle.record.specs.Entry.{Label, Entry, entryAt, labelNo}
 use Rattle.record.specs.Sound.{Sound, Plain, Spelled}
 use Rattle.record.specs.Formed.{unsound}
 use Rattle.record.proofs.Agree.{says-sound}
 use Rattle.index.specs.Labels.{kindNo, nameNo}
-use Rattle.drawing.specs.declared.Checked.the-variants as checked
 use Rattle.drawing.specs.Needs.{Shape, point, circle, arc, declaring, Part, parts, needAt}
 use Rattle.drawing.specs.Faults as faults
-use faults.{Meets, Guessed, AnyUnguessed, Fault, malformed, declared-twice, wrong-label, guessed-twice, without-guess}
-use Rattle.drawing.specs.Check.{checkOf, countOf, answer, checkedOf}
+use faults.{Meets, Guessed, AnyUnguessed, malformed, declared-twice, wrong-label, guessed-twice, without-guess}
+use Rattle.drawing.specs.Check.{checkOf}
 use Rattle.drawing.proofs.Agree.{says-meets, says-guessed, check-passes}
 use Rattle.lowering.specs.Demand.{Declares}
 
@@ -66,24 +65,6 @@ fine es e =
           ];
       guessed-all = λ i s d. each-guessed es (nameNo es i) (parts s) (λ u. none-holds without-guess i (omega (arith, d .inside)) (s, d .kind-is, u));
     }
-
--- ---- from the check's answer
-
--- a drawing is answered with its counts exactly if no fault was found
-pub record PassedWith (es : List Entry) (P C A R : ℕ) : Type 0 where
-  pub none-found : checkOf es ≡ passed
-  pub points : P ≡ countOf es newPoint newPoint
-  pub circles : C ≡ countOf es newCircle newCircle
-  pub arcs : A ≡ countOf es newArc newArc
-  pub rules : R ≡ countOf es firstRule lastRule
-
-pub passed-with : (es : List Entry) (P C A R : ℕ) → checkedOf es ≡ checked.Passed P C A R → PassedWith es P C A R
-unfolding checkedOf
-passed-with es P C A R e = go (checkOf es) refl e
-  where
-    go : (o : Answer Fault) → checkOf es ≡ o → answer es o ≡ checked.Passed P C A R → PassedWith es P C A R
-    go passed f e = record { none-found = f; points = cc; circles = cc; arcs = cc; rules = cc }
-    go (refused g j) f e = absurd (let z : _≡_ {A = ℕ} 0 1 = cc in omega arith)
 
 -- ---- the kinds that declare
 
