@@ -17,7 +17,7 @@ use Rattle.lowering.specs.Demand.{Declares}
 use Rattle.ground.proofs.Pieces.{Each, each-append, each-flat, flat-append, picks-around, picks-each}
 use Rattle.index.proofs.Laws.{within-one}
 use Rattle.lowering.proofs.drawing.Counts.{labels-pick, labels-before, labels-all, length-of}
-use Rattle.lowering.proofs.drawing.Fine.{Fine, declaration, Behind}
+use Rattle.lowering.proofs.drawing.Fine.{Fine, same-record, Behind}
 
 -- ---- what holds of each declared shape's label holds of each slot's
 
@@ -96,7 +96,7 @@ module _ (es : List Entry) (w : Fine es) (i : ℕ) (s : Shape) (d : Declares es 
       each-slot (λ (l : Label). l ≡ nameNo es i → ⊥) (Other (nameNo es i)) t fs (λ l n. each-own (Other (nameNo es i)) t l (λ u a b. n))
       (λ j g e.
       let (b, n, q) = f j g in
-      w .once i (d .inside) (declaration s (kindNo es i) (d .kind-is)) (to j) b n (declaration t (kindNo es (to j)) (sym (ap (λ (r : Entry). r .kind) q) ∙ g .kind-is)) (sym (ap (λ (r : Entry). labelNo r 0) q) ∙ e))
+      n (same-record es w (to j) i t s (record { inside = b; kind-is = sym (ap (λ (r : Entry). r .kind) q) ∙ g .kind-is }) d (sym (ap (λ (r : Entry). labelNo r 0) q) ∙ e)))
 
   of-kind : (t : Shape) → (declaring t ≡ declaring s → ⊥) → Each (Other (nameNo es i)) (slotsOf t es)
   of-kind t f = others t es (λ j. j) (λ j g. (g .inside, (λ q. f (sym (g .kind-is) ∙ ap (kindNo es) q ∙ d .kind-is)), refl))
