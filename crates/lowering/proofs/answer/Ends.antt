@@ -103,7 +103,7 @@ module _ (text bs : List ℕ) {P C A R : ℕ} {answer : Checked} (told : answer 
       well-formed-iff text bs .0
       (passed-iff (entries text bs) .1 (λ i h. check-passes (entries text bs) .0 (counted .none-found) malformed i h))
 
-  short : length (entries text bs) ≤ mostRecords
+  pub short : length (entries text bs) ≤ mostRecords
   short = let f = well-formed in omega (arith, whole-length text bs (f .short) (f .few) (f .whole), f .few)
 
   -- the counts are small
