@@ -1,7 +1,7 @@
 -- The counts of a drawing are the lengths of the lists that its records are picked into: each record adds to both alike. Assumes nothing.
 use mathlib.Core.Path.{_≡_, refl, sym, ap, _∙_}
 use mathlib.Core.Bool.{Bool, true, false, cond}
-use mathlib.Core.List.{List, [], _∷_, _++_}
+use mathlib.Core.List.{List, [], _∷_}
 use Prim.Native.Nat.{ℕ, zero, suc, _+_, _*_, _≤_, _<_}
 use native.Mathlib.Nat.{le-refl}
 use native.Mathlib.Omega.{arith}
@@ -24,6 +24,7 @@ use Rattle.lowering.specs.Slots.{slotsOfShape, labelsOf, slotsOf, slots,
 use Rattle.lowering.specs.Rows.{rulesOf}
 use Rattle.lowering.specs.Demand.{Declares, rulesBefore}
 use Rattle.index.proofs.Laws.{within-one}
+use Rattle.ground.proofs.Lists.{either-le}
 use Rattle.ground.proofs.Pieces.{each-of, length-flat, Picks, picks-suc, picks-around}
 
 -- ---- what is picked
@@ -68,11 +69,7 @@ module _ {B : Type 0} (low high : ℕ) (f : Entry → B) (g : List Entry → Lis
 pub count-le : (kinds : ℕ → ℕ) (low high n : ℕ) → countBelow kinds low high n ≤ n
 unfolding countBelow
 count-le kinds low high zero = omega arith
-count-le kinds low high (suc n) = omega (arith, count-le kinds low high n, small (within low high (kinds n)))
-  where
-    small : (b : Bool) → cond b 1 0 ≤ 1
-    small true = omega arith
-    small false = omega arith
+count-le kinds low high (suc n) = omega (arith, count-le kinds low high n, either-le (within low high (kinds n)) 1 0 1 (omega arith) (omega arith))
 
 -- ---- shapes and rules
 
@@ -107,20 +104,12 @@ pub length-of : (s : Shape) (es : List Entry) → length (slotsOf s es) ≡ leng
 length-of s es = length-flat (slotsOfShape s) (size s) (labelsOf s es) (each-of (λ l. length (slotsOfShape s l) ≡ size s) (labelsOf s es) [] (λ j h. length-shape s _))
 
 module _ (es : List Entry) where
+  pub all-of : (s : Shape) → length (slotsOf s es) ≡ howMany s es * size s
+  all-of s = length-of s es ∙ rw (labels-all es s) refl
+
   pub length-slots : length (slots es) ≡ layout.slotCount (layoutOf es)
   unfolding slots
-  length-slots =
-      length-append (slotsOf point es) (slotsOf circle es ++ slotsOf arc es)
-      ∙ omega (
-        arith,
-        length-append (slotsOf circle es) (slotsOf arc es),
-        length-of point es,
-        length-of circle es,
-        length-of arc es,
-        labels-all es point,
-        labels-all es circle,
-        labels-all es arc,
-      )
+  length-slots = simp length-append (omega (arith, all-of point, all-of circle, all-of arc))
 
   -- 2P + 3C + 6A
   pub slot-count : length (slots es) ≡ 2 * howMany point es + 3 * howMany circle es + 6 * howMany arc es
