@@ -14,9 +14,8 @@ use Rattle.refusal.specs.Refusal.{refusal}
 use Rattle.refusal.specs.First.{Answer, passed, refused}
 use Rattle.layout.specs.declared.Layout.{Layout}
 use Rattle.layout.specs.Slots.{idsEnd}
-use Rattle.layout.specs.Push.{onward}
+use Rattle.layout.specs.Run.{slotsFor}
 use Rattle.record.specs.Record.{mostRecords}
-use Rattle.record.specs.Kinds.{firstRule, lastRule}
 use Rattle.record.specs.Entry.{Entry}
 use Rattle.record.specs.Formed.{WellFormed, entries}
 use Rattle.record.proofs.Entries.{whole-length}
@@ -24,19 +23,20 @@ use Rattle.record.proofs.Told.{passed-iff}
 use Rattle.record.proofs.WellFormed.{well-formed-iff}
 use Rattle.index.specs.Labels.{drawn, kindNo}
 use Rattle.index.proofs.Drawn.{entries-drawn}
+use Rattle.drawing.specs.declared.Checked.{Checked}
 use Rattle.drawing.specs.declared.Checked.the-variants as checked
+use Rattle.drawing.specs.Needs.{Shape, point, circle, arc, declaring}
 use Rattle.drawing.specs.Faults.{Fault, malformed, numberOf}
-use Rattle.drawing.specs.Check.{countBelow, answer, checkOf, checkedOf}
+use Rattle.drawing.specs.Check.{answer, checkOf, checkedOf}
 use Rattle.drawing.proofs.Agree.{check-passes}
 use Rattle.lowering.specs.declared.Lowered.the-variants as L
-use Rattle.lowering.specs.Slots.{slots, layoutOf, valuesOf}
-use Rattle.row.specs.Row.{rowBytes, encodeRows}
-use Rattle.lowering.specs.Rows.{rulesOf, rowsOf}
-use Rattle.lowering.specs.Lower.{Room, Lack, few-ids, short-slices, short-rows, lackNumber, lacking, lackOf, lowerOf, onto, roomIn, Lowers}
+use Rattle.lowering.specs.Slots.{slots, howMany, layoutOf}
+use Rattle.row.specs.Row.{rowBytes}
+use Rattle.lowering.specs.Rows.{rulesOf}
+use Rattle.lowering.specs.Lower.{Room, Lack, few-ids, short-slices, short-rows, lackNumber, lacking, lackOf, lowerOf, roomIn, Lowers}
 use Rattle.lowering.specs.Demand.{EnoughFor}
 use Rattle.lowering.specs.Steps.{Passing, Filled, lackTold}
-use Rattle.lowering.proofs.drawing.Counts.{count-le, rules-all, slot-count}
-use Rattle.lowering.proofs.drawing.Fine.{passed-with}
+use Rattle.lowering.proofs.drawing.Counts.{count-le, PassedWith, passed-with}
 use Rattle.lowering.proofs.answer.Lacking.{lack-is, lower-good, lower-refused, lower-lacking}
 
 -- ---- what is lent, by the answer
@@ -45,11 +45,6 @@ module _ (es : List Entry) (next : ℕ) (ids : List ℕ) (values : List Float) (
   -- on a refusal, what it was
   kept-all : (r : Refusal) → lowerOf es (roomIn next ids values rows) ≡ L.Refused r → Lowers es next ids values rows (L.Refused r) ids values rows
   kept-all r e = record { answer = sym e; ids-are = rw e refl; values-are = rw e refl; rows-are = rw e refl }
-
-  -- and else the slots and the rows
-  filled-all : (l : Layout) (n m : ℕ) → lowerOf es (roomIn next ids values rows) ≡ L.Good l n m
-      → Lowers es next ids values rows (L.Good l n m) (onto ids (onward next (length (slots es)))) (onto values (valuesOf es)) (onto rows (encodeRows (rowsOf es next)))
-  filled-all l n m e = record { answer = sym e; ids-are = rw e refl; values-are = rw e refl; rows-are = rw e refl }
 
   -- ---- the check refuses
 
@@ -99,73 +94,49 @@ lack-ends es room k c told some = go (lacking es room few-ids) (lacking es room 
 
 -- ---- the check passes
 
--- the slots and the rules of a drawing, by the check's counts
-record Counted (es : List Entry) (P C A R : ℕ) : Type 0 where
-  passes : checkOf es ≡ passed
-  slot-number : length (slots es) ≡ P * 2 + C * 3 + A * 6
-  rule-number : length (rulesOf es) ≡ R
+module _ (text bs : List ℕ) {P C A R : ℕ} {answer : Checked} (told : answer ≡ checkedOf (entries text bs)) (is : answer ≡ checked.Passed P C A R) where
+  counted : PassedWith (entries text bs) P C A R
+  counted = passed-with (entries text bs) P C A R (sym told ∙ is)
 
-counted : (es : List Entry) (P C A R : ℕ) → checkedOf es ≡ checked.Passed P C A R → Counted es P C A R
-counted es P C A R e =
-    let p = passed-with es P C A R e in
-    record {
-      passes = p .none-found;
-      slot-number = rw (p .points, p .circles, p .arcs) (omega (arith, slot-count es));
-      rule-number = rules-all es ∙ sym (p .rules);
-    }
-
-pub lacking-ends : (es : List Entry) (next : ℕ) (ids : List ℕ) (values : List Float) (rows : List ℕ) (P C A R k : ℕ) → checkedOf es ≡ checked.Passed P C A R
-    → lackTold (roomIn next ids values rows) (P * 2 + C * 3 + A * 6) R ≡ k → (k ≡ 0 → ⊥) → Lowers es next ids values rows (L.Refused (refusal k 0)) ids values rows
-lacking-ends es next ids values rows P C A R k e told some =
-    let c = counted es P C A R e in
-    kept-all es next ids values rows (refusal k 0) (lack-ends es (roomIn next ids values rows) k (c .passes) (rw (c .slot-number, c .rule-number) told) some)
-
--- the counts are small
-pub record Few (P C A R : ℕ) : Type 0 where
-  pub points : P ≤ mostRecords
-  pub circles : C ≤ mostRecords
-  pub arcs : A ≤ mostRecords
-  pub rules : R ≤ mostRecords
-
-module _ (text bs : List ℕ) (P C A R : ℕ) (told : checkedOf (entries text bs) ≡ checked.Passed P C A R) where
   well-formed : WellFormed text bs
   well-formed =
       well-formed-iff text bs .0
-      (passed-iff (entries text bs) .1 (λ i h. check-passes (entries text bs) .0 (counted (entries text bs) P C A R told .passes) malformed i h))
+      (passed-iff (entries text bs) .1 (λ i h. check-passes (entries text bs) .0 (counted .none-found) malformed i h))
 
-  -- the entries are those that the code reads
-  pub drawn-are : entries text bs ≡ drawn text bs
-  drawn-are = entries-drawn text bs well-formed
-
-  short : length (entries text bs) ≤ mostRecords
+  pub short : length (entries text bs) ≤ mostRecords
   short = let f = well-formed in omega (arith, whole-length text bs (f .short) (f .few) (f .whole), f .few)
 
-  pub few-counted : Few P C A R
+  -- the counts are small
+  pub few-counted : (P ≤ mostRecords) × (C ≤ mostRecords) × (A ≤ mostRecords)
   few-counted =
       let es = entries text bs in
-      let p = passed-with es P C A R told in
-      let below : (low high : ℕ) → countBelow (kindNo es) low high (length es) ≤ mostRecords = λ low high. omega (arith, short, count-le (kindNo es) low high (length es)) in
-      record { points = omega (arith, p .points, below 1 1); circles = omega (arith, p .circles, below 2 2); arcs = omega (arith, p .arcs, below 3 3); rules = omega (arith, p .rules, below firstRule lastRule) }
+      let few : (s : Shape) → howMany s es ≤ mostRecords = λ s. omega (arith, short, count-le (kindNo es) (declaring s) (declaring s) (length es)) in
+      (omega (arith, counted .points, few point), omega (arith, counted .circles, few circle), omega (arith, counted .arcs, few arc))
 
-  module _ (next : ℕ) (ids : List ℕ) (values : List Float) (rows : List ℕ) (nothing : lackTold (roomIn next ids values rows) (P * 2 + C * 3 + A * 6) R ≡ 0) where
-    passing : Passing (entries text bs) next ids values rows
-    passing =
-        let c = counted (entries text bs) P C A R told in
-        record {
-          passes = c .passes;
-          few = short;
-          enough = rw (c .slot-number, c .rule-number) (enough-for (roomIn next ids values rows) (P * 2 + C * 3 + A * 6) R nothing);
-        }
+  module _ (next : ℕ) (ids : List ℕ) (values : List Float) (rows : List ℕ) {n lack : ℕ} (slots-are : n ≡ slotsFor P C A) (lack-is : lack ≡ lackTold (roomIn next ids values rows) n R) where
+    -- something lacks
+    pub lacking-ends : (lack ≡ 0 → ⊥) → Lowers (entries text bs) next ids values rows (L.Refused (refusal lack 0)) ids values rows
+    lacking-ends some =
+        kept-all (entries text bs) next ids values rows (refusal lack 0)
+        (lack-ends (entries text bs) (roomIn next ids values rows) lack (counted .none-found) (rw (counted .slot-number, ← slots-are, counted .rule-number) (sym lack-is)) some)
 
-    pub passing-is : Passing (drawn text bs) next ids values rows
-    passing-is = rw drawn-are at passing
+    -- nothing lacks
+    module _ (nothing : lack ≡ 0) where
+      pub enough : EnoughFor n R (roomIn next ids values rows)
+      enough = enough-for (roomIn next ids values rows) n R (sym lack-is ∙ nothing)
 
-    pub good-ends : (l : Layout) (ids′ : List ℕ) (values′ : List Float) (rows′ : List ℕ) → Filled (drawn text bs) next ids values rows l ids′ values′ rows′
-        → Lowers (entries text bs) next ids values rows (L.Good l (next + (P * 2 + C * 3 + A * 6)) R) ids′ values′ rows′
-    good-ends l ids′ values′ rows′ filled =
-        let es = entries text bs in
-        let c = counted es P C A R told in
-        let f : Filled es next ids values rows l ids′ values′ rows′ = rw drawn-are filled in
-        rw (f .layout-is, f .ids-are, f .values-are, f .rows-are)
-        (filled-all es next ids values rows (layoutOf es) (next + (P * 2 + C * 3 + A * 6)) R
-        (lower-good es (roomIn next ids values rows) (passing .enough) (passing .passes) ∙ rw (c .slot-number, c .rule-number) refl))
+      passing : Passing (entries text bs) next ids values rows
+      passing = record { passes = counted .none-found; few = short; enough = rw (counted .slot-number, ← slots-are, counted .rule-number) enough }
+
+      -- the entries are those that the code reads
+      pub passing-is : Passing (drawn text bs) next ids values rows
+      passing-is = rw (entries-drawn text bs well-formed) at passing
+
+      pub good-ends : (l : Layout) (ids′ : List ℕ) (values′ : List Float) (rows′ : List ℕ) → Filled (drawn text bs) next ids values rows l ids′ values′ rows′
+          → Lowers (entries text bs) next ids values rows (L.Good l (next + n) R) ids′ values′ rows′
+      good-ends l ids′ values′ rows′ filled =
+          let es = entries text bs in
+          let f : Filled es next ids values rows l ids′ values′ rows′ = rw (entries-drawn text bs well-formed) filled in
+          let good : lowerOf es (roomIn next ids values rows) ≡ L.Good (layoutOf es) (next + n) R =
+          lower-good es (roomIn next ids values rows) (passing .enough) (passing .passes) ∙ rw (counted .slot-number, ← slots-are, counted .rule-number) refl in
+          record { answer = rw (f .layout-is) (sym good); ids-are = f .ids-are ∙ rw good refl; values-are = f .values-are ∙ rw good refl; rows-are = f .rows-are ∙ rw good refl }

@@ -1,7 +1,7 @@
 -- The counts of a drawing are the lengths of the lists that its records are picked into: each record adds to both alike. Assumes nothing.
 use mathlib.Core.Path.{_≡_, refl, sym, ap, _∙_}
 use mathlib.Core.Bool.{Bool, true, false, cond}
-use mathlib.Core.List.{List, [], _∷_, _++_}
+use mathlib.Core.List.{List, [], _∷_}
 use Prim.Native.Nat.{ℕ, zero, suc, _+_, _*_, _≤_, _<_}
 use native.Mathlib.Nat.{le-refl}
 use native.Mathlib.Omega.{arith}
@@ -15,11 +15,16 @@ use Rattle.record.specs.Kinds.{firstRule, lastRule}
 use Rattle.record.specs.Entry.{Label, Entry, noEntry, entryAt, labelNo}
 use Rattle.index.specs.Labels.{kindNo, within}
 use Rattle.drawing.specs.Needs.{Shape, point, circle, arc, declaring}
-use Rattle.drawing.specs.Check.{countBelow}
+use Rattle.drawing.specs.declared.Checked.the-variants as checked
+use Rattle.refusal.specs.First.{Answer, passed, refused}
+use Rattle.layout.specs.Run.{slotsFor}
+use Rattle.drawing.specs.Faults.{Fault}
+use Rattle.drawing.specs.Check.{countBelow, answer, checkOf, checkedOf}
 use Rattle.lowering.specs.Slots.{slotsOfShape, labelsOf, slotsOf, slots, size, before, howMany, layoutOf}
 use Rattle.lowering.specs.Rows.{rulesOf}
 use Rattle.lowering.specs.Demand.{Declares, rulesBefore}
 use Rattle.index.proofs.Laws.{within-one}
+use Rattle.ground.proofs.Lists.{either-le}
 use Rattle.ground.proofs.Pieces.{each-of, length-flat, Picks, picks-suc, picks-around}
 
 -- ---- what is picked
@@ -64,11 +69,7 @@ module _ {B : Type 0} (low high : ℕ) (f : Entry → B) (g : List Entry → Lis
 pub count-le : (kinds : ℕ → ℕ) (low high n : ℕ) → countBelow kinds low high n ≤ n
 unfolding countBelow
 count-le kinds low high zero = omega arith
-count-le kinds low high (suc n) = omega (arith, count-le kinds low high n, small (within low high (kinds n)))
-  where
-    small : (b : Bool) → cond b 1 0 ≤ 1
-    small true = omega arith
-    small false = omega arith
+count-le kinds low high (suc n) = omega (arith, count-le kinds low high n, either-le (within low high (kinds n)) 1 0 1 (omega arith) (omega arith))
 
 -- ---- shapes and rules
 
@@ -103,20 +104,12 @@ pub length-of : (s : Shape) (es : List Entry) → length (slotsOf s es) ≡ leng
 length-of s es = length-flat (slotsOfShape s) (size s) (labelsOf s es) (each-of (λ l. length (slotsOfShape s l) ≡ size s) (labelsOf s es) [] (λ j h. length-shape s _))
 
 module _ (es : List Entry) where
+  pub all-of : (s : Shape) → length (slotsOf s es) ≡ howMany s es * size s
+  all-of s = length-of s es ∙ rw (labels-all es s) refl
+
   pub length-slots : length (slots es) ≡ layout.slotCount (layoutOf es)
   unfolding slots
-  length-slots =
-      length-append (slotsOf point es) (slotsOf circle es ++ slotsOf arc es)
-      ∙ omega (
-        arith,
-        length-append (slotsOf circle es) (slotsOf arc es),
-        length-of point es,
-        length-of circle es,
-        length-of arc es,
-        labels-all es point,
-        labels-all es circle,
-        labels-all es arc,
-      )
+  length-slots = simp length-append (omega (arith, all-of point, all-of circle, all-of arc))
 
   -- 2P + 3C + 6A
   pub slot-count : length (slots es) ≡ 2 * howMany point es + 3 * howMany circle es + 6 * howMany arc es
@@ -131,3 +124,36 @@ module _ (es : List Entry) where
     possible =
         can-be (layoutOf es)
         (record { counts = record { points = few-of point; circles = few-of circle; arcs = few-of arc }; circles-late = λ h. omega arith; arcs-late = λ h. omega arith })
+
+-- ---- from the check's answer
+
+-- a drawing is answered with its counts exactly if no fault was found
+pub record PassedWith (es : List Entry) (P C A R : ℕ) : Type 0 where
+  pub none-found : checkOf es ≡ passed
+  pub points : P ≡ howMany point es
+  pub circles : C ≡ howMany circle es
+  pub arcs : A ≡ howMany arc es
+  pub rules : R ≡ rulesBefore es (length es)
+  pub slot-number : length (slots es) ≡ slotsFor P C A
+  pub rule-number : length (rulesOf es) ≡ R
+
+pub passed-with : (es : List Entry) (P C A R : ℕ) → checkedOf es ≡ checked.Passed P C A R → PassedWith es P C A R
+unfolding checkedOf
+passed-with es P C A R e = go (checkOf es) refl e
+  where
+    go : (o : Answer Fault) → checkOf es ≡ o → answer es o ≡ checked.Passed P C A R → PassedWith es P C A R
+    go passed f e =
+        let points : P ≡ howMany point es = cc in
+        let circles : C ≡ howMany circle es = cc in
+        let arcs : A ≡ howMany arc es = cc in
+        let rules : R ≡ rulesBefore es (length es) = cc in
+        record {
+          none-found = f;
+          points = points;
+          circles = circles;
+          arcs = arcs;
+          rules = rules;
+          slot-number = rw (points, circles, arcs) (omega (arith, length-slots es));
+          rule-number = rules-all es ∙ sym rules;
+        }
+    go (refused g j) f e = absurd (let z : _≡_ {A = ℕ} 0 1 = cc in omega arith)

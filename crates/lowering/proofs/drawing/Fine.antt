@@ -1,102 +1,67 @@
 -- What a drawing that the check passes is like: each fault that holds nowhere is a fact of it. Assumes nothing.
-use mathlib.Core.Path.{_≡_, refl, sym, ap, _∙_, subst}
+use mathlib.Core.Path.{_≡_, refl, sym, ap, _∙_}
 use mathlib.Core.Logic.{_⊎_, inl, inr}
 use mathlib.Core.Bool.{true, true≢false}
-use mathlib.Core.List.{List, [], _∷_, _++_, nil≢cons, head-eq-of-cons-eq, tail-eq-of-cons-eq, List·Memᴰ, List·Memᴰ·cases-cons, List·Memᴰ·not-nil}
+use mathlib.Core.List.{List, [], _∷_, _++_, nil≢cons, head-eq-of-cons-eq, tail-eq-of-cons-eq}
 use Prim.Native.Nat.{ℕ, suc, _<_, suc-le-suc}
 use native.Mathlib.Nat.{zero-lt-suc}
 use native.Mathlib.Omega.{arith}
-use native.Mathlib.Decide.{decLt}
 use lib.ListN.{length, getD}
-use Rattle.refusal.specs.First.{Answer, passed, refused, EachBelow}
+use Rattle.refusal.specs.First.{passed, EachBelow, SomeBelow}
 use Rattle.refusal.proofs.Says.{stable}
 use Rattle.text.specs.Text.{isAlphanum}
-use Rattle.record.specs.Kinds.{kindAt, newPoint, newCircle, newArc, firstRule, lastRule, Declaration, Rule, Guess}
+use Rattle.record.specs.Kinds.{Kind, newPoint, kindAt, Declaration, Rule, Guess}
 use Rattle.record.specs.Entry.{Label, Entry, entryAt, labelNo}
-use Rattle.record.specs.Sound.{Sound, Plain, Spelled}
+use Rattle.record.specs.Sound.{Sound, Plain}
 use Rattle.record.specs.Formed.{unsound}
 use Rattle.record.proofs.Agree.{says-sound}
 use Rattle.index.specs.Labels.{kindNo, nameNo}
-use Rattle.drawing.specs.declared.Checked.the-variants as checked
 use Rattle.drawing.specs.Needs.{Shape, point, circle, arc, declaring, Part, parts, needAt}
 use Rattle.drawing.specs.Faults as faults
-use faults.{Meets, Guessed, AnyUnguessed, Fault, malformed, declared-twice, wrong-label, guessed-twice, without-guess}
-use Rattle.drawing.specs.Check.{checkOf, countOf, answer, checkedOf}
+use faults.{Meets, Guessed, AnyUnguessed, malformed, declared-twice, wrong-label, guessed-twice, without-guess}
+use Rattle.drawing.specs.Check.{checkOf}
 use Rattle.drawing.proofs.Agree.{says-meets, says-guessed, check-passes}
 use Rattle.lowering.specs.Demand.{Declares}
-
--- no other record declares the label of record i
-abbrev pub Once : List Entry → ℕ → Type 0
-Once es i = (j : ℕ) → j < length es → (j ≡ i → ⊥) → Declaration (kindNo es j) → nameNo es j ≡ nameNo es i → ⊥
+use Rattle.lowering.specs.Steps.{shapeOf}
+use Rattle.ground.proofs.Pieces.{Each}
 
 -- records are sound; a label is declared once, and a part guessed once; each rule's labels are what they need to be; each part is guessed
 pub record Fine (es : List Entry) : Type 0 where
   pub sound : EachBelow (length es) (λ i. Sound (entryAt es i))
-  pub once : EachBelow (length es) (λ i. Declaration (kindNo es i) → Once es i)
+  pub once : (i j : ℕ) → i < length es → j < length es → Declaration (kindNo es i) → Declaration (kindNo es j) → nameNo es i ≡ nameNo es j → i ≡ j
   pub met : EachBelow (length es) (λ i. Rule (kindNo es i) → EachBelow (kindAt (kindNo es i) .labels) (λ q. Meets es (needAt (kindNo es i) q) (labelNo (entryAt es i) q)))
   pub guess-once : (i j : ℕ) → i < length es → j < length es → Guess (kindNo es i) → Guess (kindNo es j) → nameNo es i ≡ nameNo es j → i ≡ j
-  pub guessed-all : (i : ℕ) (s : Shape) → Declares es i s → (p : Part) → List·Memᴰ p (parts s) → Guessed es (nameNo es i) p
+  pub guessed-all : (i : ℕ) (s : Shape) → Declares es i s → Each (Guessed es (nameNo es i)) (parts s)
 
-each-guessed : (es : List Entry) (l : Label) (ps : List Part) → (AnyUnguessed es l ps → ⊥) → (p : Part) → List·Memᴰ p ps → Guessed es l p
-each-guessed es l [] f p m = absurd (List·Memᴰ·not-nil m)
-each-guessed es l (p₀ ∷ ps) f p m = go (each-guessed es l ps (λ u. f (inr u)) p) (List·Memᴰ·cases-cons m)
-  where
-    go : (List·Memᴰ p ps → Guessed es l p) → (p ≡ p₀) ⊎ List·Memᴰ p ps → Guessed es l p
-    go g (inl e) = subst (λ (q : Part). Guessed es l q) (sym e) (stable (says-guessed es l p₀) (λ n. f (inl n)))
-    go g (inr n) = g n
+-- a name that none has after another is had once
+one-only : (es : List Entry) (P : ℕ → Type 0) → ((i : ℕ) → i < length es → P (kindNo es i) × SomeBelow i (λ j. P (kindNo es j) × (nameNo es j ≡ nameNo es i)) → ⊥)
+    → (i j : ℕ) → i < length es → j < length es → P (kindNo es i) → P (kindNo es j) → nameNo es i ≡ nameNo es j → i ≡ j
+one-only es P none i j h g a b same =
+    let low : j < i → ⊥ = λ c. none i h (a, (j, c, (b, sym same))) in
+    let high : i < j → ⊥ = λ c. none j g (b, (i, c, (a, same))) in
+    omega (arith, low, high)
+
+each-guessed : (es : List Entry) (l : Label) (ps : List Part) → (AnyUnguessed es l ps → ⊥) → Each (Guessed es l) ps
+each-guessed es l [] f = tt
+each-guessed es l (p ∷ ps) f = (stable (says-guessed es l p) (λ n. f (inl n)), each-guessed es l ps (λ u. f (inr u)))
 
 pub fine : (es : List Entry) → checkOf es ≡ passed → Fine es
 fine es e =
     let none-holds = check-passes es .0 e in
     record {
       sound = λ i h. stable (says-sound (entryAt es i)) (λ n. none-holds malformed i (omega (arith, h)) (unsound h n));
-      once = λ i h d j g other d′ same.
-          elim (decLt j i) [
-            | yes b ↦ none-holds declared-twice i (omega (arith, h)) (d, (j, b, (d′, same)))
-            | no f ↦ none-holds declared-twice j (omega (arith, g)) (d′, (i, omega (arith, other, f), (d, sym same)))
-          ];
+      once = one-only es Declaration (λ i h. none-holds declared-twice i (omega (arith, h)));
       met = λ i h r q g. stable (says-meets es (needAt (kindNo es i) q) (labelNo (entryAt es i) q)) (λ n. none-holds wrong-label i (omega (arith, h)) (r, (q, g, n)));
-      guess-once = λ i j h g a b same.
-          elim (decLt j i) [
-            | yes c ↦ absurd (none-holds guessed-twice i (omega (arith, h)) (a, (j, c, (b, sym same))))
-            | no f ↦ elim (decLt i j) [
-              | yes c ↦ absurd (none-holds guessed-twice j (omega (arith, g)) (b, (i, c, (a, same))))
-              | no f′ ↦ omega (arith, f, f′)
-            ]
-          ];
+      guess-once = one-only es Guess (λ i h. none-holds guessed-twice i (omega (arith, h)));
       guessed-all = λ i s d. each-guessed es (nameNo es i) (parts s) (λ u. none-holds without-guess i (omega (arith, d .inside)) (s, d .kind-is, u));
     }
 
--- ---- from the check's answer
-
--- a drawing is answered with its counts exactly if no fault was found
-pub record PassedWith (es : List Entry) (P C A R : ℕ) : Type 0 where
-  pub none-found : checkOf es ≡ passed
-  pub points : P ≡ countOf es newPoint newPoint
-  pub circles : C ≡ countOf es newCircle newCircle
-  pub arcs : A ≡ countOf es newArc newArc
-  pub rules : R ≡ countOf es firstRule lastRule
-
-pub passed-with : (es : List Entry) (P C A R : ℕ) → checkedOf es ≡ checked.Passed P C A R → PassedWith es P C A R
-unfolding checkedOf
-passed-with es P C A R e = go (checkOf es) refl e
-  where
-    go : (o : Answer Fault) → checkOf es ≡ o → answer es o ≡ checked.Passed P C A R → PassedWith es P C A R
-    go passed f e = record { none-found = f; points = cc; circles = cc; arcs = cc; rules = cc }
-    go (refused g j) f e = absurd (let z : _≡_ {A = ℕ} 0 1 = cc in omega arith)
-
 -- ---- the kinds that declare
 
-pub same-shape : (s t : Shape) → declaring s ≡ declaring t → s ≡ t
-same-shape point point e = refl
-same-shape point circle e = absurd (omega arith)
-same-shape point arc e = absurd (omega arith)
-same-shape circle point e = absurd (omega arith)
-same-shape circle circle e = refl
-same-shape circle arc e = absurd (omega arith)
-same-shape arc point e = absurd (omega arith)
-same-shape arc circle e = absurd (omega arith)
-same-shape arc arc e = refl
+pub shape-back : (s : Shape) → shapeOf (declaring s) ≡ s
+shape-back point = refl
+shape-back circle = refl
+shape-back arc = refl
 
 pub declaration : (s : Shape) (k : ℕ) → k ≡ declaring s → Declaration k
 declaration point k e = (omega arith, omega arith)
@@ -105,12 +70,7 @@ declaration arc k e = (omega arith, omega arith)
 
 -- a label is declared by one record
 pub same-record : (es : List Entry) → Fine es → (i i′ : ℕ) (s s′ : Shape) → Declares es i s → Declares es i′ s′ → nameNo es i ≡ nameNo es i′ → i ≡ i′
-same-record es w i i′ s s′ d d′ e =
-    let never : (i ≡ i′ → ⊥) → ⊥ = λ other. w .once i′ (d′ .inside) (declaration s′ (kindNo es i′) (d′ .kind-is)) i (d .inside) other (declaration s (kindNo es i) (d .kind-is)) e in
-    elim (decLt i i′) [
-      | yes b ↦ absurd (never (λ q. omega (arith, b, q)))
-      | no f ↦ elim (decLt i′ i) [ yes b ↦ absurd (never (λ q. omega (arith, b, q))) | no f′ ↦ omega (arith, f, f′) ]
-    ]
+same-record es w i i′ s s′ d d′ = w .once i i′ (d .inside) (d′ .inside) (declaration s (kindNo es i) (d .kind-is)) (declaration s′ (kindNo es i′) (d′ .kind-is))
 
 -- ---- labels without a dot, and what may stand behind them
 
@@ -127,22 +87,18 @@ plain-no-dot {l} p k h e =
     let z : isAlphanum 46 ≡ true = ap isAlphanum (sym e) ∙ p .each k h in
     true≢false (sym z)
 
--- a declared label is plain
+-- a declaration has one label, spelled as a point's
+one-label : (s : Shape) → (kindAt (declaring s) .labels ≡ 1) × (kindAt (declaring s) .dotted ≡ kindAt newPoint .dotted)
+one-label point = (refl, refl)
+one-label circle = (refl, refl)
+one-label arc = (refl, refl)
+
+-- so a declared label is plain
 pub plain-name : (es : List Entry) → Fine es → (i : ℕ) (s : Shape) → Declares es i s → Plain (nameNo es i)
-plain-name es w i s d = go s (d .kind-is)
-  where
-    sound : Sound (entryAt es i)
-    sound = w .sound i (d .inside)
-
-    spelled : (k : ℕ) → kindNo es i ≡ k → kindAt k .labels ≡ 1 → Spelled (kindAt k .dotted) (nameNo es i)
-    spelled k e one =
-        subst (λ (n : ℕ). Spelled (kindAt n .dotted) (nameNo es i)) e
-        (sound .spelled 0 (omega (arith, sound .count, ap (λ (n : ℕ). kindAt n .labels) e, one)))
-
-    go : (s : Shape) → kindNo es i ≡ declaring s → Plain (nameNo es i)
-    go point e = spelled 1 e refl
-    go circle e = spelled 2 e refl
-    go arc e = spelled 3 e refl
+plain-name es w i s d =
+    let sound = w .sound i (d .inside) in
+    let k = ap kindAt (d .kind-is) in
+    rw (ap (λ (t : Kind). t .dotted) k ∙ one-label s .1) at (sound .spelled 0 (omega (arith, sound .count, ap (λ (t : Kind). t .labels) k, one-label s .0)))
 
 dot-first : (y : ℕ) (a u w : Label) → NoDot (y ∷ a) → Behind u → u ≡ y ∷ w → ⊥
 dot-first y a u w n (inl e) q = nil≢cons (sym e ∙ q)

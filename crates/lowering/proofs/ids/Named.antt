@@ -55,15 +55,6 @@ pair-behind the-point = inl refl
 pair-behind circle-center = inr (_, refl)
 pair-behind arc-center = inr (_, refl)
 
--- where it stands among its shape's slots, as the steps find it
-pub stands : {s : Shape} {u : Label} → PairPart s u → {a : ℕ} → XY a → (centerBy (declaring s) + axisAt a ≡ componentAt s u a) × (componentAt s u a < size s)
-stands the-point the-x = (refl, omega arith)
-stands the-point the-y = (refl, omega arith)
-stands circle-center the-x = (refl, omega arith)
-stands circle-center the-y = (refl, omega arith)
-stands arc-center the-x = (refl, omega arith)
-stands arc-center the-y = (refl, omega arith)
-
 alone : {a b : ℕ} → a ≡ b → a ∷ [] ≡ b ∷ []
 alone e = ap (λ (z : ℕ). z ∷ []) e
 
@@ -71,15 +62,19 @@ alone e = ap (λ (z : ℕ). z ∷ []) e
 abbrev inPart : Label → ℕ → Slot → Bool
 inPart u a t = same (t .suffix) u && eqb (t .axis) a
 
--- and it alone has its name there
-one-id : {s : Shape} {u : Label} → PairPart s u → (l : Label) (n m : ℕ) {a : ℕ} → XY a → m ≡ n + componentAt s u a
-    → idsWhere (inPart u a) n (slotsOfShape s l) ≡ m ∷ []
-one-id the-point l n m the-x e = alone (omega (arith, e))
-one-id the-point l n m the-y e = alone (omega (arith, e))
-one-id circle-center l n m the-x e = alone (omega (arith, e))
-one-id circle-center l n m the-y e = alone (omega (arith, e))
-one-id arc-center l n m the-x e = alone (omega (arith, e))
-one-id arc-center l n m the-y e = alone (omega (arith, e))
+-- it stands among its shape's slots where the steps find it, and is the only one of its name
+pub record Stands (s : Shape) (u : Label) (a : ℕ) : Type 0 where
+  pub place : centerBy (declaring s) + axisAt a ≡ componentAt s u a
+  pub inside : componentAt s u a < size s
+  pub only : (l : Label) (n : ℕ) → idsWhere (inPart u a) n (slotsOfShape s l) ≡ (n + componentAt s u a) ∷ []
+
+pub stands : {s : Shape} {u : Label} → PairPart s u → {a : ℕ} → XY a → Stands s u a
+stands the-point the-x = record { place = refl; inside = omega arith; only = λ l n. alone (omega arith) }
+stands the-point the-y = record { place = refl; inside = omega arith; only = λ l n. alone (omega arith) }
+stands circle-center the-x = record { place = refl; inside = omega arith; only = λ l n. alone (omega arith) }
+stands circle-center the-y = record { place = refl; inside = omega arith; only = λ l n. alone (omega arith) }
+stands arc-center the-x = record { place = refl; inside = omega arith; only = λ l n. alone (omega arith) }
+stands arc-center the-y = record { place = refl; inside = omega arith; only = λ l n. alone (omega arith) }
 
 -- ---- the ids of a declared shape, and of one of its parts
 
@@ -119,4 +114,5 @@ module _ (es : List Entry) (w : Fine es) (j : ℕ) (s : Shape) (d : Declares es 
       ids-own (names part third (l ++ u)) (λ t c e. same-stem (t .shape) l (t .suffix) u (c .0) n (c .1) (pair-behind p) (says-names part third (l ++ u) t .so e .0))
       ∙ ids-same (names part third (l ++ u)) (inPart u third) (next + firstSlot s es j) (slotsOfShape s l)
       (each-own (λ t. names part third (l ++ u) t ≡ inPart u third t) s l (λ v a b. ap (λ (z : Bool). z && eqb a third) (same-behind l v u)))
-      ∙ one-id p l (next + firstSlot s es j) _ o (omega arith)
+      ∙ stands p o .only l (next + firstSlot s es j)
+      ∙ alone (omega arith)

@@ -1,6 +1,6 @@
 -- What a label names lies among six ids, whatever the label, the layout and the ids are: by the cases of the steps. Assumes nothing.
 use mathlib.Core.Path.{_≡_, refl, _∙_}
-use mathlib.Core.Bool.{Bool, true, false, cond}
+use mathlib.Core.Bool.{cond}
 use mathlib.Core.List.{List}
 use Prim.Native.Nat.{ℕ, _+_, _≤_}
 use native.Mathlib.Omega.{arith}
@@ -23,15 +23,11 @@ use Rattle.lowering.specs.declared.spans.Span.{Span}
 use Rattle.lowering.specs.Slots.{y-axis}
 use Rattle.lowering.specs.Rows.{Naming, whole, part, center}
 use Rattle.lowering.specs.Steps.{Added, byKind, shapeNo, stemOf, centerSpan, spanOf, pointSix, circleSix, arcSix, sixOf, numberNo, spanIds}
+use Rattle.lowering.proofs.ids.Tested.{by-test}
 
 -- what holds of three holds of the one that a number chooses
 by-kind : {A : Type 0} (P : A → Type 0) (kind m n : ℕ) (x y z : A) → P x → P y → P z → P (byKind kind m n x y z)
-by-kind P kind m n x y z a b c = go (eqb kind m) (eqb kind n)
-  where
-    go : (s t : Bool) → P (cond s x (cond t y z))
-    go true t = a
-    go false true = b
-    go false false = c
+by-kind P kind m n x y z a b c = by-test P (eqb kind m) x (cond (eqb kind n) y z) (λ e. a) (λ e. by-test P (eqb kind n) y z (λ e. b) (λ e. c))
 
 -- ---- spans
 

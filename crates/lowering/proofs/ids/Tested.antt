@@ -14,6 +14,11 @@ use Rattle.lowering.specs.Rows.{idsWhere}
 use Rattle.lowering.specs.Demand.{noSlot}
 use Rattle.ground.proofs.Pieces.{Each, each-at, each-map}
 
+-- what holds of both holds of the one that a test chooses
+pub by-test : {A : Type 0} (P : A → Type 0) (b : Bool) (x y : A) → (b ≡ true → P x) → (b ≡ false → P y) → P (cond b x y)
+by-test P true x y f g = f refl
+by-test P false x y f g = g refl
+
 module _ (p : Slot → Bool) where
   -- ---- of lists put together
 
@@ -51,26 +56,21 @@ module _ (p : Slot → Bool) where
   -- an id is that of a slot that passes
   pub ids-named : (next : ℕ) (xs : List Slot) (n : ℕ) → List·Memᴰ n (idsWhere p next xs) → SomeBelow (length xs) (λ j. (n ≡ next + j) × (p (getD xs j noSlot) ≡ true))
   ids-named next [] n m = absurd (List·Memᴰ·not-nil m)
-  ids-named next (s ∷ xs) n m = go (p s) refl (ids-named (suc next) xs n) m
+  ids-named next (s ∷ xs) n m =
+      by-test (λ ids. List·Memᴰ n ids → SomeBelow (suc (length xs)) (λ j. (n ≡ next + j) × (p (getD (s ∷ xs) j noSlot) ≡ true))) (p s) _ _
+      (λ e k. ⊎-elim (λ q. (0, zero-lt-suc (length xs), (omega (arith, q), e))) (λ k. up (ids-named (suc next) xs n k)) (List·Memᴰ·cases-cons k))
+      (λ e k. up (ids-named (suc next) xs n k)) m
     where
       up : SomeBelow (length xs) (λ j. (n ≡ suc next + j) × (p (getD xs j noSlot) ≡ true)) → SomeBelow (suc (length xs)) (λ j. (n ≡ next + j) × (p (getD (s ∷ xs) j noSlot) ≡ true))
       up (j, h, (e, q)) = (suc j, suc-le-suc h, (omega (arith, e), q))
-
-      go : (b : Bool) → p s ≡ b → (List·Memᴰ n (idsWhere p (suc next) xs) → SomeBelow (length xs) (λ j. (n ≡ suc next + j) × (p (getD xs j noSlot) ≡ true)))
-          → List·Memᴰ n (cond b (next ∷ idsWhere p (suc next) xs) (idsWhere p (suc next) xs))
-          → SomeBelow (suc (length xs)) (λ j. (n ≡ next + j) × (p (getD (s ∷ xs) j noSlot) ≡ true))
-      go true e f m = ⊎-elim (λ q. (0, zero-lt-suc (length xs), (omega (arith, q), e))) (λ k. up (f k)) (List·Memᴰ·cases-cons m)
-      go false e f m = up (f m)
 
   -- and each slot that passes has one
   pub ids-has : (next : ℕ) (xs : List Slot) (j : ℕ) → j < length xs → p (getD xs j noSlot) ≡ true → (n : ℕ) → n ≡ next + j → List·Memᴰ n (idsWhere p next xs)
   ids-has next [] j h e n q = absurd (not-suc-le-zero h)
   ids-has next (s ∷ xs) zero h e n q = let f : n ≡ next = omega (arith, q) in rw e (List·Memᴰ·head f)
-  ids-has next (s ∷ xs) (suc j) h e n q = go (p s) (ids-has (suc next) xs j (le-of-suc-le-suc h) e n (omega (arith, q)))
-    where
-      go : (b : Bool) → List·Memᴰ n (idsWhere p (suc next) xs) → List·Memᴰ n (cond b (next ∷ idsWhere p (suc next) xs) (idsWhere p (suc next) xs))
-      go true m = List·Memᴰ·tail m
-      go false m = m
+  ids-has next (s ∷ xs) (suc j) h e n q =
+      let m = ids-has (suc next) xs j (le-of-suc-le-suc h) e n (omega (arith, q)) in
+      by-test (λ ids. List·Memᴰ n ids) (p s) _ _ (λ t. List·Memᴰ·tail m) (λ t. m)
 
   -- ---- they rise
 
@@ -84,26 +84,18 @@ module _ (p : Slot → Bool) where
   pub ids-within : (next : ℕ) (xs : List Slot) → Each (λ (n : ℕ). (next ≤ n) × (n < next + length xs)) (idsWhere p next xs)
   ids-within next [] = tt
   ids-within next (s ∷ xs) =
-      go (p s) (each-map (Within (suc next) (length xs)) (Within next (suc (length xs))) (λ n h. (omega (arith, h .0), omega (arith, h .1))) (idsWhere p (suc next) xs) (ids-within (suc next) xs))
-    where
-      go : (b : Bool) → Each (Within next (suc (length xs))) (idsWhere p (suc next) xs)
-          → Each (Within next (suc (length xs))) (cond b (next ∷ idsWhere p (suc next) xs) (idsWhere p (suc next) xs))
-      go true a = ((le-refl next, omega arith), a)
-      go false a = a
+      let a = each-map (Within (suc next) (length xs)) (Within next (suc (length xs))) (λ n h. (omega (arith, h .0), omega (arith, h .1))) (idsWhere p (suc next) xs) (ids-within (suc next) xs) in
+      by-test (λ ids. Each (Within next (suc (length xs))) ids) (p s) _ _ (λ t. ((le-refl next, omega arith), a)) (λ t. a)
 
   pub ids-rise : (next : ℕ) (xs : List Slot) → Rising (idsWhere p next xs)
   ids-rise next [] = λ a b h g. absurd (not-suc-le-zero g)
-  ids-rise next (s ∷ xs) = go (p s) (ids-rise (suc next) xs) (ids-within (suc next) xs)
+  ids-rise next (s ∷ xs) = by-test Rising (p s) _ _ (λ t. cons (idsWhere p (suc next) xs) (ids-rise (suc next) xs) (ids-within (suc next) xs)) (λ t. ids-rise (suc next) xs)
     where
       cons : (ids : List ℕ) → Rising ids → Each (Within (suc next) (length xs)) ids → Rising (next ∷ ids)
       cons ids r e zero zero h g = absurd (not-suc-le-zero h)
       cons ids r e zero (suc b) h g = each-at (Within (suc next) (length xs)) ids 0 e b (le-of-suc-le-suc g) .0
       cons ids r e (suc a) zero h g = absurd (not-suc-le-zero h)
       cons ids r e (suc a) (suc b) h g = r a b (le-of-suc-le-suc h) (le-of-suc-le-suc g)
-
-      go : (b : Bool) → Rising (idsWhere p (suc next) xs) → Each (Within (suc next) (length xs)) (idsWhere p (suc next) xs) → Rising (cond b (next ∷ idsWhere p (suc next) xs) (idsWhere p (suc next) xs))
-      go true r e = cons (idsWhere p (suc next) xs) r e
-      go false r e = r
 
 -- tests that agree on each slot
 pub ids-same : (p q : Slot → Bool) (next : ℕ) (xs : List Slot) → Each (λ (s : Slot). p s ≡ q s) xs → idsWhere p next xs ≡ idsWhere q next xs

@@ -1,69 +1,46 @@
 -- `lowering::lower` meets its contract: by what the check tells, and by what is lacking. Assumes nothing.
 use native.Mathlib.Omega.{arith}
-use mathlib.Core.Path.{sym, _∙_, ap}
-use Prim.Native.Nat.{ℕ, _+_, _*_}
-use Rattle.lowering.specs.Lower.{roomIn}
-use Rattle.lowering.specs.Steps.{lackTold}
-use Rattle.lowering.proofs.answer.Ends.{refused-ends, enough-for, lacking-ends, few-counted, passing-is, good-ends}
+use mathlib.Core.Path.{sym, _∙_}
+use Rattle.lowering.proofs.answer.Ends.{refused-ends, few-counted, lacking-ends, enough, passing-is, good-ends}
 use borrow.Author.Needs.{needs}
 use Rattle.lowering.proofs.lower.Statement.{statement}
 use Rattle.lowering.proofs.lower.Tie as tie
 
 slots-of-requires : tie.Need-slots-of-requires
-slots-of-requires c κs =
-    let a = c .before .before .before .before .before .before .before .before .before .args in
-    let g = c .before .checked2 .given in
-    let passes = sym (c .before .before .before .check .ensures) ∙ g .1 in
-    let few = few-counted (a .text .now) (a .records .now) _ _ _ _ passes in
-    (few .points, few .circles, few .arcs)
+slots-of-requires c κs = few-counted _ _ (c .before .before .before .check .ensures) (c .before .checked2 .given .1)
 
 returns : tie.Need-returns
 returns c =
-    let a = c .before .before .before .before .before .before .before .before .before .before .before .before .args in
-    let g = c .before .before .before .before .checked2 .given in
-    let passes = sym (c .before .before .before .before .before .before .check .ensures) ∙ g .1 in
-    let room = roomIn (a .next) (a .ids .now) (a .values .now) (a .rows .now) in
-    let lack = sym (c .before .lack .ensures ∙ ap (λ (n : ℕ). lackTold room n (g .0 .1 .1 .1 .0)) (c .before .before .slots-of .ensures)) in
-    lacking-ends _ _ _ _ _ _ _ _ (g .0 .1 .1 .1 .0) _ passes lack (c .if1 .taken)
+    let l = c .before in
+    lacking-ends _ _ (l .before .before .before .before .before .check .ensures) (l .before .before .before .checked2 .given .1) _ _ _ _ (l .before .slots-of .ensures) (l .lack .ensures) (c .if1 .taken)
 
 fill-requires : tie.Need-fill-requires
 fill-requires c κs =
-    let a = c .before .before .before .before .before .before .before .before .before .before .before .before .before .before .before .args in
-    let g = c .before .before .before .before .before .before .before .checked2 .given in
-    let passes = sym (c .before .before .before .before .before .before .before .before .before .check .ensures) ∙ g .1 in
-    let room = roomIn (a .next) (a .ids .now) (a .values .now) (a .rows .now) in
-    let lack = sym (c .before .before .before .before .lack .ensures ∙ ap (λ (n : ℕ). lackTold room n (g .0 .1 .1 .1 .0)) (c .before .before .before .before .before .slots-of .ensures)) in
-    passing-is (a .text .now) (a .records .now) _ _ _ _ passes _ _ _ _ (lack ∙ c .before .before .before .if1 .left)
+    let l = c .before .before .before .before in
+    passing-is _ _ (l .before .before .before .before .before .check .ensures) (l .before .before .before .checked2 .given .1) _ _ _ _ (l .before .slots-of .ensures) (l .lack .ensures) (c .before .before .before .if1 .left)
 
 cast-t28 : tie.Need-cast-t28
 cast-t28 c =
-    let a = c .before .before .before .before .before .before .before .before .before .before .before .before .before .before .before .before .before .before .before .before .before .before .args in
-    let g = c .before .before .before .before .before .before .before .before .before .before .before .before .before .before .checked2 .given in
-    let passes = sym (c .before .before .before .before .before .before .before .before .before .before .before .before .before .before .before .before .check .ensures) ∙ g .1 in
-    let room = roomIn (a .next) (a .ids .now) (a .values .now) (a .rows .now) in
-    let lack = sym (c .before .before .before .before .before .before .before .before .before .before .before .lack .ensures ∙ ap (λ (n : ℕ). lackTold room n (g .0 .1 .1 .1 .0)) (c .before .before .before .before .before .before .before .before .before .before .before .before .slots-of .ensures)) in
-    omega (arith, enough-for room (g .0 .0 * 2 + g .0 .1 .0 * 3 + g .0 .1 .1 .0 * 6) (g .0 .1 .1 .1 .0) (lack ∙ c .before .before .before .before .before .before .before .before .before .before .if1 .left) .ids-left, c .before .before .before .before .before .before .before .before .before .before .before .before .slots-of .ensures)
+    let l = c .before .before .before .before .before .before .before .before .before .before .before in
+    let a = l .before .before .before .before .before .before .before .before .before .before .before .args in
+    let e = enough _ _ (l .before .before .before .before .before .check .ensures) (l .before .before .before .checked2 .given .1) _ (a .ids .now) (a .values .now) (a .rows .now) (l .before .slots-of .ensures) (l .lack .ensures) (c .before .before .before .before .before .before .before .before .before .before .if1 .left) in
+    omega (arith, e .ids-left)
 
 add-t29 : tie.Need-add-t29
 add-t29 c =
-    let a = c .before .before .before .before .before .before .before .before .before .before .before .before .before .before .before .before .before .before .before .before .before .before .args in
-    let g = c .before .before .before .before .before .before .before .before .before .before .before .before .before .before .checked2 .given in
-    let passes = sym (c .before .before .before .before .before .before .before .before .before .before .before .before .before .before .before .before .check .ensures) ∙ g .1 in
-    let room = roomIn (a .next) (a .ids .now) (a .values .now) (a .rows .now) in
-    let lack = sym (c .before .before .before .before .before .before .before .before .before .before .before .lack .ensures ∙ ap (λ (n : ℕ). lackTold room n (g .0 .1 .1 .1 .0)) (c .before .before .before .before .before .before .before .before .before .before .before .before .slots-of .ensures)) in
-    omega (arith, enough-for room (g .0 .0 * 2 + g .0 .1 .0 * 3 + g .0 .1 .1 .0 * 6) (g .0 .1 .1 .1 .0) (lack ∙ c .before .before .before .before .before .before .before .before .before .before .if1 .left) .ids-left, c .before .before .before .before .before .before .before .before .before .before .before .before .slots-of .ensures)
+    let l = c .before .before .before .before .before .before .before .before .before .before .before in
+    let a = l .before .before .before .before .before .before .before .before .before .before .before .args in
+    let e = enough _ _ (l .before .before .before .before .before .check .ensures) (l .before .before .before .checked2 .given .1) _ (a .ids .now) (a .values .now) (a .rows .now) (l .before .slots-of .ensures) (l .lack .ensures) (c .before .before .before .before .before .before .before .before .before .before .if1 .left) in
+    omega (arith, e .ids-left)
 
 returns-2 : tie.Need-returns-2
 returns-2 c = refused-ends _ _ _ _ _ _ (sym (c .before .before .before .check .ensures) ∙ c .before .checked .given .1)
 
 returns-3 : tie.Need-returns-3
 returns-3 c =
-    let a = c .before .before .before .before .before .before .before .before .before .before .before .before .before .before .before .before .before .before .before .before .before .before .args in
-    let g = c .before .before .before .before .before .before .before .before .before .before .before .before .before .before .checked2 .given in
-    let passes = sym (c .before .before .before .before .before .before .before .before .before .before .before .before .before .before .before .before .check .ensures) ∙ g .1 in
-    let room = roomIn (a .next) (a .ids .now) (a .values .now) (a .rows .now) in
-    let lack = sym (c .before .before .before .before .before .before .before .before .before .before .before .lack .ensures ∙ ap (λ (n : ℕ). lackTold room n (g .0 .1 .1 .1 .0)) (c .before .before .before .before .before .before .before .before .before .before .before .before .slots-of .ensures)) in
-    rw (c .before .before .before .before .before .before .before .before .before .before .before .before .slots-of .ensures) (good-ends (a .text .now) (a .records .now) _ _ _ _ passes _ _ _ _ (lack ∙ c .before .before .before .before .before .before .before .before .before .before .if1 .left) _ _ _ _ (c .before .before .before .before .before .before .fill .ensures))
+    let l = c .before .before .before .before .before .before .before .before .before .before .before in
+    good-ends _ _ (l .before .before .before .before .before .check .ensures) (l .before .before .before .checked2 .given .1) _ _ _ _ (l .before .slots-of .ensures) (l .lack .ensures) (c .before .before .before .before .before .before .before .before .before .before .if1 .left) _ _ _ _
+    (c .before .before .before .before .before .before .fill .ensures)
 
 pub lower-spec : {M : Type 1} → statement M
 lower-spec =

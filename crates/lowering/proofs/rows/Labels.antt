@@ -137,9 +137,9 @@ module _ (es : List Entry) (w : Fine es) (next : ℕ) (e : Entry) where
       first = componentAt s u (e .third);
       count = 1;
       some = omega arith;
-      inside = omega (arith, stands p o .1);
+      inside = omega (arith, stands p o .inside);
       wide = one;
-      span = span ∙ rw (declared-found es w j s d, d .kind-is, stands p o .0) refl;
+      span = span ∙ rw (declared-found es w j s d, d .kind-is, stands p o .place) refl;
       ids-are = ids ∙ ids-part es w j s d next (e .third) p o;
     }
 

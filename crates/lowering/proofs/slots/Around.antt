@@ -16,19 +16,17 @@ use Rattle.lowering.specs.Slots.{Slot, slot, slotsOfShape, labelsOf, slo
 use Rattle.lowering.specs.Demand.{Declares}
 use Rattle.ground.proofs.Pieces.{Each, each-append, each-flat, flat-append, picks-around, picks-each}
 use Rattle.index.proofs.Laws.{within-one}
-use Rattle.lowering.proofs.drawing.Counts.{labels-pick, labels-before, labels-all, length-of}
-use Rattle.lowering.proofs.drawing.Fine.{Fine, declaration, Behind}
+use Rattle.lowering.proofs.drawing.Counts.{labels-pick, labels-before, length-of, all-of}
+use Rattle.lowering.proofs.drawing.Fine.{Fine, same-record, Behind}
 
 -- ---- what holds of each declared shape's label holds of each slot's
 
-pub each-label : (P : Label → Type 0) (s : Shape) (es : List Entry) → ((j : ℕ) → Declares es j s → P (nameNo es j)) → Each P (labelsOf s es)
-each-label P s es f =
-    picks-each _ _ _ (labels-pick s) P es noEntry
-    (λ j h e. f j (record { inside = h; kind-is = says-eq (kindNo es j) (declaring s) .so (sym (within-one (declaring s) (kindNo es j)) ∙ e) }))
-
 pub each-slot : (P : Label → Type 0) (Q : Slot → Type 0) (s : Shape) (es : List Entry) → ((l : Label) → P l → Each Q (slotsOfShape s l))
     → ((j : ℕ) → Declares es j s → P (nameNo es j)) → Each Q (slotsOf s es)
-each-slot P Q s es g f = each-flat (slotsOfShape s) P Q g (labelsOf s es) (each-label P s es f)
+each-slot P Q s es g f =
+    each-flat (slotsOfShape s) P Q g (labelsOf s es)
+    (picks-each _ _ _ (labels-pick s) P es noEntry
+    (λ j h e. f j (record { inside = h; kind-is = says-eq (kindNo es j) (declaring s) .so (sym (within-one (declaring s) (kindNo es j)) ∙ e) })))
 
 -- points, circles and arcs
 pub each-of-all : (Q : Slot → Type 0) (es : List Entry) → ((s : Shape) → Each Q (slotsOf s es)) → Each Q (slots es)
@@ -77,9 +75,8 @@ of-kinds arc es = simp (append-assoc, append-nil)
 
 front-long : (s : Shape) (es : List Entry) (i n : ℕ) → n ≡ before s es i * size s → length (frontOf s es) + n ≡ firstSlot s es i
 front-long point es i n e = omega (arith, e)
-front-long circle es i n e = omega (arith, e, length-of point es, labels-all es point)
-front-long arc es i n e =
-    omega (arith, e, length-append (slotsOf point es) (slotsOf circle es), length-of point es, labels-all es point, length-of circle es, labels-all es circle)
+front-long circle es i n e = omega (arith, e, all-of es point)
+front-long arc es i n e = omega (arith, e, length-append (slotsOf point es) (slotsOf circle es), all-of es point, all-of es circle)
 
 module _ (es : List Entry) (w : Fine es) (i : ℕ) (s : Shape) (d : Declares es i s) where
   -- the slots of its kind, around its own
@@ -96,7 +93,7 @@ module _ (es : List Entry) (w : Fine es) (i : ℕ) (s : Shape) (d : Declares es 
       each-slot (λ (l : Label). l ≡ nameNo es i → ⊥) (Other (nameNo es i)) t fs (λ l n. each-own (Other (nameNo es i)) t l (λ u a b. n))
       (λ j g e.
       let (b, n, q) = f j g in
-      w .once i (d .inside) (declaration s (kindNo es i) (d .kind-is)) (to j) b n (declaration t (kindNo es (to j)) (sym (ap (λ (r : Entry). r .kind) q) ∙ g .kind-is)) (sym (ap (λ (r : Entry). labelNo r 0) q) ∙ e))
+      n (same-record es w (to j) i t s (record { inside = b; kind-is = sym (ap (λ (r : Entry). r .kind) q) ∙ g .kind-is }) d (sym (ap (λ (r : Entry). labelNo r 0) q) ∙ e)))
 
   of-kind : (t : Shape) → (declaring t ≡ declaring s → ⊥) → Each (Other (nameNo es i)) (slotsOf t es)
   of-kind t f = others t es (λ j. j) (λ j g. (g .inside, (λ q. f (sym (g .kind-is) ∙ ap (kindNo es) q ∙ d .kind-is)), refl))

@@ -14,9 +14,10 @@ use Rattle.drawing.specs.Needs.{Shape, point, circle, arc}
 use Rattle.lowering.specs.Slots.{Slot, slotsOfShape, slots, size, firstSlot}
 use Rattle.lowering.specs.Offsets.{componentAt}
 use Rattle.lowering.specs.Demand.{noSlot, slotAt, Declares, ComponentOf, OneComponent}
+use Rattle.lowering.specs.Steps.{shapeOf}
 use Rattle.ground.proofs.Pieces.{Each, each-of, each-at, getD-map}
 use Rattle.lowering.proofs.drawing.Counts.{length-shape}
-use Rattle.lowering.proofs.drawing.Fine.{Fine, same-shape, same-record}
+use Rattle.lowering.proofs.drawing.Fine.{Fine, shape-back, same-record}
 use Rattle.lowering.proofs.slots.Around.{Other, around, each-slot, each-of-all, each-own}
 
 -- ---- each slot is a component of a declared shape
@@ -113,7 +114,7 @@ module _ (es : List Entry) (w : Fine es) where
   only-one : (t : Slot) (i i′ : ℕ) (s s′ : Shape) (k k′ : ℕ) → ComponentOf es i s k t → ComponentOf es i′ s′ k′ t → (i ≡ i′) × (s ≡ s′) × (k ≡ k′)
   only-one t i i′ s s′ k k′ c c′ =
       let one : i ≡ i′ = same-record es w i i′ s s′ (c .declared) (c′ .declared) (sym (label-of es i s k t c) ∙ label-of es i′ s′ k′ t c′) in
-      let shapes : s ≡ s′ = same-shape s s′ (sym (c .declared .kind-is) ∙ ap (kindNo es) one ∙ c′ .declared .kind-is) in
+      let shapes : s ≡ s′ = sym (shape-back s) ∙ ap shapeOf (sym (c .declared .kind-is) ∙ ap (kindNo es) one ∙ c′ .declared .kind-is) ∙ shape-back s′ in
       let own : getD (slotsOfShape s′ (nameNo es i′)) k noSlot ≡ getD (slotsOfShape s′ (nameNo es i′)) k′ noSlot = rw (← shapes, ← one) (sym (c .is)) ∙ c′ .is in
       (one, shapes, one-place s′ (nameNo es i′) k k′ (subst (λ (z : Shape). k < size z) shapes (c .one-of-it)) (c′ .one-of-it) own)
 

@@ -22,8 +22,9 @@ use Rattle.drawing.specs.Needs.{Shape, point, circle, arc, declaring}
 use Rattle.ground.specs.Lists.{flat}
 use Rattle.lowering.specs.Slots.{slotsOfShape, labelsOf, slots, howMany, layoutOf, startOf, valuesOf}
 use Rattle.lowering.specs.Lower.{onto}
-use Rattle.lowering.specs.Steps.{pairFor, circleFor, arcFor, shapeFor, shapeOf, pushedAt, pushedAll, stage, laid, Passing}
+use Rattle.lowering.specs.Steps.{pairFor, circleFor, arcFor, shapeFor, pushedAt, pushedAll, stage, laid, Passing}
 use Rattle.lowering.proofs.drawing.Counts.{labels-all, few-of, length-slots}
+use Rattle.lowering.proofs.drawing.Fine.{shape-back}
 use Rattle.lowering.proofs.slots.Values.{length-values}
 
 -- ---- runs
@@ -32,11 +33,6 @@ run-append : (xs ys : List Act) (s : State) → run (xs ++ ys) s ≡ run ys (run
 unfolding run
 run-append [] ys s = refl
 run-append (a ∷ xs) ys s = run-append xs ys (act a s)
-
-shape-back : (s : Shape) → shapeOf (declaring s) ≡ s
-shape-back point = refl
-shape-back circle = refl
-shape-back arc = refl
 
 module _ (es : List Entry) (s : Shape) where
   abbrev shapes : List Label → List layout.Shape

@@ -1,57 +1,62 @@
--- Each slot of a fine drawing starts at its component's guess: the slot belongs to a part, and the part has one guess. Assumes nothing.
-use mathlib.Core.Path.{_≡_, refl, sym, ap, _∙_, subst}
+-- Each slot of a fine drawing starts at its component's guess: its part is guessed, and guessed once. Assumes nothing.
+use mathlib.Core.Path.{_≡_, refl, sym, _∙_}
 use mathlib.Core.Bool.{Bool, true, false, cond}
-use mathlib.Core.List.{List, [], _∷_, _++_, List·Memᴰ}
+use mathlib.Core.List.{List, [], _∷_}
 use Prim.Native.Nat.{ℕ, _<_}
+use native.Mathlib.Omega.{arith}
 use lib.Dec.{eqb}
 use lib.ListN.{length, getD, length-map}
-use lib.Ieee.{nan, binary64, ofBits}
-use Rattle.refusal.specs.First.{EachBelow}
+use lib.Ieee.{nan}
+use Rattle.refusal.specs.First.{EachBelow, SomeBelow}
 use Rattle.record.specs.Kinds.{pairGuess, Guess}
 use Rattle.record.specs.Entry.{Label, Entry}
-use Rattle.index.specs.Labels.{nameNo}
-use Rattle.drawing.specs.Needs.{Shape, Part, parts}
-use Rattle.lowering.specs.Slots.{Slot, slot, x-axis, y-axis, no-axis, slotsOfPart, slotsOfShape, slots, numberFor, startOf, valuesOf}
-use Rattle.lowering.specs.Demand.{noSlot, slotAt, Starts}
-use Rattle.ground.proofs.Pieces.{Each, each-at, each-flat, each-mem, getD-map}
-use Rattle.lowering.proofs.drawing.Counts.{length-shape}
+use Rattle.drawing.specs.Needs.{Shape, point, circle, arc, Part, parts}
+use Rattle.drawing.specs.Faults.{Guessed}
+use Rattle.lowering.specs.Slots.{Slot, slot, x-axis, y-axis, no-axis, slotsOfPart, slots, guessOf, startOf, valuesOf}
+use Rattle.lowering.specs.Demand.{noSlot, slotAt, GuessFor, Starts}
+use Rattle.ground.proofs.Pieces.{Each, each-at, each-both, each-flat, getD-map}
 use Rattle.lowering.proofs.drawing.Fine.{Fine}
-use Rattle.lowering.proofs.drawing.Found.{guess-kind, guess-of}
-use Rattle.lowering.proofs.slots.Components.{component-at, label-of}
+use Rattle.lowering.proofs.drawing.Found.{guess-found}
+use Rattle.lowering.proofs.slots.Around.{each-slot, each-of-all}
 
--- ---- a slot belongs to a part
+-- ---- each slot's part is guessed
 
-abbrev OfPart : Shape → Slot → Type 0
-OfPart s t = (p : Part) × List·Memᴰ p (parts s) × (t .suffix ≡ p .suffix)
+abbrev HasGuess : List Entry → Slot → Type 0
+HasGuess es t = SomeBelow (length es) (GuessFor es t)
 
-slots-of-part : (s : Shape) (l : Label) (p : Part) → List·Memᴰ p (parts s) → Each (OfPart s) (slotsOfPart l p)
-slots-of-part s l p m = go (eqb (p .guess) pairGuess)
+-- the kinds of the guesses that are due
+due : (s : Shape) → Each (λ (p : Part). Guess (p .guess)) (parts s)
+due point = ((omega arith, omega arith), tt)
+due circle = ((omega arith, omega arith), ((omega arith, omega arith), tt))
+due arc = ((omega arith, omega arith), ((omega arith, omega arith), ((omega arith, omega arith), tt)))
+
+of-part : (es : List Entry) (l : Label) (p : Part) → Guess (p .guess) → Guessed es l p → Each (HasGuess es) (slotsOfPart l p)
+of-part es l p k (g, h, (e, name)) = go (eqb (p .guess) pairGuess)
   where
-    go : (b : Bool) → Each (OfPart s) (cond b (slot l (p .suffix) x-axis ∷ slot l (p .suffix) y-axis ∷ []) (slot l (p .suffix) no-axis ∷ []))
-    go true = ((p, m, refl), ((p, m, refl), tt))
-    go false = ((p, m, refl), tt)
+    go : (b : Bool) → Each (HasGuess es) (cond b (slot l (p .suffix) x-axis ∷ slot l (p .suffix) y-axis ∷ []) (slot l (p .suffix) no-axis ∷ []))
+    go true = ((g, h, (rw e k, name)), ((g, h, (rw e k, name)), tt))
+    go false = ((g, h, (rw e k, name)), tt)
 
-of-part : (s : Shape) (l : Label) → Each (OfPart s) (slotsOfShape s l)
-of-part s l = each-flat (slotsOfPart l) (λ (p : Part). List·Memᴰ p (parts s)) (OfPart s) (slots-of-part s l) (parts s) (each-mem (parts s))
+has-guess : (es : List Entry) → Fine es → Each (HasGuess es) (slots es)
+has-guess es w =
+    each-of-all (HasGuess es) es
+    (λ s. each-slot (λ (l : Label). Each (Guessed es l) (parts s)) (HasGuess es) s es
+    (λ l a. each-flat (slotsOfPart l) (λ (p : Part). Guess (p .guess) × Guessed es l p) (HasGuess es) (λ p h. of-part es l p (h .0) (h .1)) (parts s)
+    (each-both (λ (p : Part). Guess (p .guess)) (Guessed es l) (λ (p : Part). Guess (p .guess) × Guessed es l p) (λ p x y. (x, y)) (parts s) (due s) a))
+    (λ j d. w .guessed-all j s d))
 
 -- ---- what it starts at
 
 pub starts : (es : List Entry) → Fine es → EachBelow (length (slots es)) (λ j. Starts es (slotAt es j) (startOf es (slotAt es j)))
+unfolding guessOf
 starts es w j h =
-    let t = slotAt es j in
-    let (i, s, k, c) = component-at es j h in
-    let l = nameNo es i in
-    let inside : k < length (slotsOfShape s l) = subst (λ (n : ℕ). k < n) (sym (length-shape s l)) (c .one-of-it) in
-    let (p, m, e) = each-at (OfPart s) (slotsOfShape s l) noSlot (of-part s l) k inside in
-    let suffix-is : t .suffix ≡ p .suffix = ap (λ (z : Slot). z .suffix) (c .is) ∙ e in
-    let (g, found) = guess-of es w i s (c .declared) p m in
-    let name : l ++ p .suffix ≡ t .shape ++ t .suffix = rw (label-of es i s k t c, suffix-is) refl in
+    let (g, inside, (is, name)) = each-at (HasGuess es) (slots es) noSlot (has-guess es w) j h in
     record {
       guess = g;
-      inside = found .inside;
-      is-guess = (subst Guess (sym (found .kind-is)) (guess-kind s p m), found .name-is ∙ name);
-      only = λ x y z. found .only x y (z .0) (z .1 ∙ sym name);
-      value = ap (λ (r : Entry). ofBits binary64 (numberFor (t .axis) r)) (rw name at (found .guess-is));
+      inside = inside;
+      is-guess = (is, name);
+      only = λ x y z. w .guess-once x g y inside (z .0) is (z .1 ∙ sym name);
+      value = rw (← name, guess-found es w g inside is) refl;
     }
 
 -- ---- the starting values of all slots

@@ -12,16 +12,10 @@ Inv-loop out₀ m first count six k₀ out k = Appending out₀ m six first coun
 abbrev μ-loop : tie.MeasureT-loop
 μ-loop out₀ m first count six k₀ out k = count - k
 
-loop-holds : tie.Need-loop-holds Inv-loop μ-loop
-loop-holds c = append-start
-
 loop-again : tie.Need-loop-again Inv-loop μ-loop
 loop-again c = append-turn (c .before .loop .inv) (omega arith) (omega arith) (omega arith)
 
-returns : tie.Need-returns Inv-loop μ-loop
-returns c = append-end (c .before .loop .inv) (omega arith) (omega arith)
-
 pub append-spec : {M : Type 1} → statement M
 append-spec =
-    tie.close (tie.spec Inv-loop μ-loop loop-holds (λ c. search needs) (λ c. search needs) (λ c. search needs) (λ c. search needs) (λ c. search needs)
-    (λ c. search needs) (λ c. search needs) (λ c. search needs) loop-again (λ c. search needs) returns)
+    tie.close (tie.spec Inv-loop μ-loop (λ c. append-start) (λ c. search needs) (λ c. search needs) (λ c. search needs) (λ c. search needs) (λ c. search needs)
+    (λ c. search needs) (λ c. search needs) (λ c. search needs) loop-again (λ c. search needs) (λ c. append-end (c .before .loop .inv) (omega arith) (omega arith)))

@@ -17,9 +17,6 @@ Inv-loop kinds text records chains numbers l ids rows₀ n at₀ i₀ rows at i 
 abbrev μ-loop : tie.MeasureT-loop
 μ-loop kinds text records chains numbers l ids rows₀ n at₀ i₀ rows at i = n - i
 
-loop-holds : tie.Need-loop-holds Inv-loop μ-loop
-loop-holds c = pieces-start
-
 write-row-requires : tie.Need-write-row-requires Inv-loop μ-loop
 write-row-requires c κs =
     let s = c .before .before .before .before .before .before .before .before .before in
@@ -41,5 +38,5 @@ returns c =
 
 pub write-rows-spec : {M : Type 1} → statement M
 write-rows-spec =
-    tie.close (tie.spec Inv-loop μ-loop loop-holds write-row-requires (λ c. search needs) (λ c. search needs) loop-again (λ c. c .before .loop .inv .long)
+    tie.close (tie.spec Inv-loop μ-loop (λ c. pieces-start) write-row-requires (λ c. search needs) (λ c. search needs) loop-again (λ c. c .before .loop .inv .long)
     returns)

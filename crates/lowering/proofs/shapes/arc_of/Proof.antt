@@ -4,10 +4,7 @@ use borrow.Author.Needs.{needs}
 use Rattle.lowering.proofs.shapes.arc_of.Statement.{statement}
 use Rattle.lowering.proofs.shapes.arc_of.Tie as tie
 
-returns : tie.Need-returns
-returns c = rw (c .before .before .before .before .pair-of .ensures, c .before .before .pair-of2 .ensures, c .pair-of3 .ensures) refl
-
 pub arc-of-spec : {M : Type 1} → statement M
 arc-of-spec =
     tie.close (tie.spec (λ c. search needs) (λ c κs. search needs) (λ c. search needs) (λ c κs. search needs) (λ c. search needs) (λ c κs. search needs)
-    returns)
+    (λ c. rw (c .before .before .before .before .pair-of .ensures, c .before .before .pair-of2 .ensures, c .pair-of3 .ensures) refl))

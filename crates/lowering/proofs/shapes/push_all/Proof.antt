@@ -17,9 +17,6 @@ Inv-loop text records chains kind ids₀ values₀ n last₀ i₀ ids values las
 abbrev μ-loop : tie.MeasureT-loop
 μ-loop text records chains kind ids₀ values₀ n last₀ i₀ ids values last i = countOf records - i
 
-loop-holds : tie.Need-loop-holds Inv-loop μ-loop
-loop-holds c = record { left = refl; ids-long = refl; values-long = refl }
-
 loop-again : tie.Need-loop-again Inv-loop μ-loop
 loop-again c =
     let a = c .before .before .before .before .before .before .before .before .before .before .before .before .before .before .args in
@@ -33,5 +30,5 @@ returns c =
 
 pub push-all-spec : {M : Type 1} → statement M
 push-all-spec =
-    tie.close (tie.spec Inv-loop μ-loop loop-holds (λ c κs. search needs) (λ c. search needs) (λ c. search needs) loop-again
+    tie.close (tie.spec Inv-loop μ-loop (λ c. record { left = refl; ids-long = refl; values-long = refl }) (λ c κs. search needs) (λ c. search needs) (λ c. search needs) loop-again
     (λ c. c .before .loop .inv .ids-long) (λ c. c .before .loop .inv .values-long) returns)

@@ -4,8 +4,5 @@ use borrow.Author.Needs.{needs}
 use Rattle.lowering.proofs.shapes.push_stage.Statement.{statement}
 use Rattle.lowering.proofs.shapes.push_stage.Tie as tie
 
-returns : tie.Need-returns
-returns c = rw (c .step .ensures) (staged _ _ (c .before .before .before .before .before .push-all .ensures))
-
 pub push-stage-spec : {M : Type 1} → statement M
-push-stage-spec = tie.close (tie.spec (λ c κs. search needs) (λ c κs. search needs) (λ c. search needs) (λ c. search needs) returns)
+push-stage-spec = tie.close (tie.spec (λ c κs. search needs) (λ c κs. search needs) (λ c. search needs) (λ c. search needs) (λ c. rw (c .step .ensures) (staged _ _ (c .before .before .before .before .before .push-all .ensures))))

@@ -13,9 +13,6 @@ Inv-loop records numbers₀ n counts₀ i₀ numbers counts i = Numbering (λ j.
 abbrev μ-loop : tie.MeasureT-loop
 μ-loop records numbers₀ n counts₀ i₀ numbers counts i = n - i
 
-loop-holds : tie.Need-loop-holds Inv-loop μ-loop
-loop-holds c = numbering-start _ _
-
 slice-write-numbers : tie.Need-slice-write-numbers Inv-loop μ-loop
 slice-write-numbers c = omega (arith, c .before .before .before .before .before .pre .0, c .before .before .loop .inv .long)
 
@@ -30,11 +27,8 @@ loop-again c =
     let k = c .kind-at in
     numbering-turn _ _ _ _ _ (c .before .before .loop .inv) (k .result) (k .ensures) (search needs) (omega (arith, c .before .before .before .before .before .pre .0, c .before .before .loop .inv .long))
 
-returns : tie.Need-returns Inv-loop μ-loop
-returns c = λ i h. c .before .loop .inv .numbered i (omega arith)
-
 pub number-spec : {M : Type 1} → statement M
 number-spec =
-    tie.close (tie.spec Inv-loop μ-loop loop-holds (λ c κs. search needs) (λ c. search needs) (λ c. search needs) (λ c. search needs) (λ c. search needs)
+    tie.close (tie.spec Inv-loop μ-loop (λ c. numbering-start _ _) (λ c κs. search needs) (λ c. search needs) (λ c. search needs) (λ c. search needs) (λ c. search needs)
     slice-write-numbers (λ c. search needs) (λ c. search needs) add-counts (λ c. search needs) (λ c. search needs) (λ c. search needs) loop-again
-    (λ c. c .before .loop .inv .long) returns)
+    (λ c. c .before .loop .inv .long) (λ c. λ i h. c .before .loop .inv .numbered i (omega arith)))

@@ -3,8 +3,5 @@ use borrow.Author.Needs.{needs}
 use Rattle.lowering.proofs.spans.size_by.Statement.{statement}
 use Rattle.lowering.proofs.spans.size_by.Tie as tie
 
-returns : tie.Need-returns
-returns c = rw (← c .before .either .ensures) (c .either2 .ensures)
-
 pub size-by-spec : {M : Type 1} → statement M
-size-by-spec = tie.close (tie.spec (λ c κs. search needs) (λ c κs. search needs) returns)
+size-by-spec = tie.close (tie.spec (λ c κs. search needs) (λ c κs. search needs) (λ c. rw (← c .before .either .ensures) (c .either2 .ensures)))
