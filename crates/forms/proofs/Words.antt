@@ -21,16 +21,16 @@ use Rattle.forms.proofs.Stands.{kept-nothing, unread}
 -- ---- the first two bytes
 
 module _ (w s : List ℕ) (at : ℕ) (long : 2 ≤ length w) (inside : at < length s) where
-  second : (t : Bool) → eqb (getD w 1 0) (getD s (at + 1) 0) ≡ t → t ≡ false → getD s at 0 ≡ getD w 0 0 → starts w (drop at s) ≡ false
-  second t e f same =
+  second : eqb (getD w 1 0) (getD s (at + 1) 0) ≡ false → getD s at 0 ≡ getD w 0 0 → starts w (drop at s) ≡ false
+  second e same =
       rw (starts-more w s 0 at (omega arith) inside same)
       (elim (decLe (length s) (at + 1)) [
         | yes h ↦ starts-short w s 1 (at + 1) (omega arith) h
-        | no h ↦ starts-stop w s 1 (at + 1) (omega arith) (lt-of-not-le h) (λ g. eqb-false (getD w 1 0) (getD s (at + 1) 0) (rw f at e) (sym g))
+        | no h ↦ starts-stop w s 1 (at + 1) (omega arith) (lt-of-not-le h) (λ g. eqb-false (getD w 1 0) (getD s (at + 1) 0) e (sym g))
       ])
 
   first : (t : Bool) → eqb (getD w 0 0) (getD s at 0) ≡ t → (t && eqb (getD w 1 0) (getD s (at + 1) 0)) ≡ false → starts w (drop at s) ≡ false
-  first true e f = second (eqb (getD w 1 0) (getD s (at + 1) 0)) refl f (sym (eqb-true (getD w 0 0) (getD s at 0) e))
+  first true e f = second f (sym (eqb-true (getD w 0 0) (getD s at 0) e))
   first false e f = starts-stop w s 0 at (omega arith) inside (λ g. eqb-false (getD w 0 0) (getD s at 0) e (sym g))
 
 -- a word whose first two bytes are others does not stand there

@@ -29,15 +29,10 @@ scale-by-requires c κs =
 returns-3 : tie.Need-returns-3
 returns-3 c =
     let d = c .before .before .before .before .mantissa-at .ensures in
-    rw (
-      ← number _ _ _ _ _ _ _ (c .before .before .before .before .before .before .before .before .after-sign .ensures)
-          (tested isWord (c .before .before .before .before .before .before .before .byte-at .ensures) (c .before .before .before .before .before .before .is-word .ensures) (c .before .before .before .before .before .if1 .left))
-          d (c .before .before .before .if2 .left)
-          (omega (arith, c .before .before .before .before .before .before .before .before .before .before .good .0 .1, few _ _ _ _ _ _ d)),
-      ← c .before .byte-at2 .ensures,
-      ← c .before .before .exponent-at .ensures,
-    )
-    (c .scale-by .ensures)
+    let word = tested isWord (c .before .before .before .before .before .before .before .byte-at .ensures) (c .before .before .before .before .before .before .is-word .ensures) (c .before .before .before .before .before .if1 .left) in
+    let fits = few _ _ _ _ _ _ d in
+    let is = number _ _ _ _ _ _ _ (c .before .before .before .before .before .before .before .before .after-sign .ensures) word d (c .before .before .before .if2 .left) (omega (arith, c .before .before .before .before .before .before .before .before .before .before .good .0 .1, fits)) in
+    cc
 
 pub number-at-spec : {M : Type 1} → statement M
 number-at-spec =

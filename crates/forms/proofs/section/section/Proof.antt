@@ -18,12 +18,6 @@ Inv-loop text first guesses number own₀ start kinds at₀ last₀ n₀ k₀ ow
 abbrev μ-loop : tie.MeasureT-loop
 μ-loop text first guesses number own₀ start kinds at₀ last₀ n₀ k₀ own at last n k = suc (length text) - k
 
-loop-holds : tie.Need-loop-holds Inv-loop μ-loop
-loop-holds c = first _ _ _ _ _ _
-
-same-length : tie.Need-same-length Inv-loop μ-loop
-same-length c = c .before .before .before .before .before .loop .inv .size
-
 returns : tie.Need-returns Inv-loop μ-loop
 returns c =
     rw (c .or-stand .ensures, c .before .stop .ensures)
@@ -56,4 +50,4 @@ returns-3 : tie.Need-returns-3 Inv-loop μ-loop
 returns-3 c = rw (c .stop2 .ensures) (over _ _ _ _ _ _ _ _ _ _ (c .before .before .loop .inv) (c .before .loop-test .left))
 
 pub section-spec : {M : Type 1} → statement M
-section-spec = tie.close (tie.spec Inv-loop μ-loop loop-holds (λ c κs. search needs) (λ c. search needs) (λ c κs. search needs) (λ c κs. search needs) same-length returns (λ c κs. omega arith) (λ c κs. search needs) (λ c. search needs) same-length-2 returns-2 (λ c. search needs) (λ c. search needs) loop-again (λ c κs. search needs) (λ c. c .before .before .loop .inv .size) returns-3)
+section-spec = tie.close (tie.spec Inv-loop μ-loop (λ c. first _ _ _ _ _ _) (λ c κs. search needs) (λ c. search needs) (λ c κs. search needs) (λ c κs. search needs) (λ c. c .before .before .before .before .before .loop .inv .size) returns (λ c κs. omega arith) (λ c κs. search needs) (λ c. search needs) same-length-2 returns-2 (λ c. search needs) (λ c. search needs) loop-again (λ c κs. search needs) (λ c. c .before .before .loop .inv .size) returns-3)

@@ -14,7 +14,8 @@ cast-read-section c =
 returns : tie.Need-returns
 returns c =
     rw (c .ws2 .ensures, c .before .opt-newline .ensures)
-    (paged _ (c .before .before .before .before .before .before .before .before .before .before .before .before .before .before .before .before .before .before .before .before .before .before .pre) _ _ _ _ (c .before .before .before .before .before .before .before .before .before .before .before .before .before .before .before .read-section .ensures) _ _ _ (c .before .before .before .before .read-section2 .ensures)
+    (paged _ (c .before .before .before .before .before .before .before .before .before .before .before .before .before .before .before .before .before .before .before .before .before .before .pre) _ _ _ _
+    (c .before .before .before .before .before .before .before .before .before .before .before .before .before .before .before .read-section .ensures) _ _ _ (c .before .before .before .before .read-section2 .ensures)
     (rw (← c .before .before .before .before .before .before .before .before .before .before .before .before .before .before .before .before .before .before .heading .ensures) (c .before .before .before .before .before .before .before .before .before .before .before .before .before .before .before .before .before .refuse .ensures))
     (rw (← c .before .before .before .before .before .before .before .before .before .before .before .before .newline .ensures, ← c .before .before .before .before .before .before .before .before .before .before .before .newline2 .ensures, ← c .before .before .before .before .before .before .before .before .before .before .refuse2 .ensures, ← c .before .before .before .before .before .before .before .before .before .ws .ensures, ← c .before .before .before .before .before .before .before .heading2 .ensures) (c .before .before .before .before .before .before .refuse3 .ensures)))
 

@@ -7,12 +7,6 @@ use borrow.Author.Tests.{not-false}
 use Rattle.record.proofs.sound.spelled_if.Statement.{statement}
 use Rattle.record.proofs.sound.spelled_if.Tie as tie
 
-add-end : tie.Need-add-end
-add-end c = omega (arith, c .before .before .before .pre (not-false _ (c .before .if1 .left)))
-
-part-spelled-end : tie.Need-part-spelled-end
-part-spelled-end c = omega (arith, c .before .before .before .pre (not-false _ (c .before .if1 .left)))
-
 returns-2 : tie.Need-returns-2
 returns-2 c =
     let a = c .before .before .before .before .before .args in
@@ -20,4 +14,5 @@ returns-2 c =
     rw (not-false (a .used) (c .before .before .before .if1 .left), ← e) (c .spelled .ensures)
 
 pub spelled-if-spec : {M : Type 1} → statement M
-spelled-if-spec = tie.close (tie.spec (λ c. search needs) add-end (λ c. search needs) (λ c. search needs) part-spelled-end (λ c κs. search needs) returns-2)
+spelled-if-spec = tie.close (tie.spec (λ c. search needs) (λ c. omega (arith, c .before .before .before .pre (not-false _ (c .before .if1 .left))))
+    (λ c. search needs) (λ c. search needs) (λ c. omega (arith, c .before .before .before .pre (not-false _ (c .before .if1 .left)))) (λ c κs. search needs) returns-2)
