@@ -15,7 +15,7 @@ use Rattle.index.specs.Labels.{kindNo, nameNo, labelled}
 use Rattle.index.proofs.Laws.{says-same, says-within}
 use Rattle.drawing.specs.Needs.{Shape, point, circle, arc, declaring, Part, parts, Need, needAt}
 use Rattle.drawing.specs.Faults as faults
-use faults.{Named, Meets, Guessed, AnyUnguessed, WithoutGuess, Fault, malformed, declared-twice, wrong-label, no-such-part, guessed-twice, without-guess, order, Holds}
+use faults.{Meets, Guessed, AnyUnguessed, WithoutGuess, Fault, malformed, declared-twice, wrong-label, no-such-part, guessed-twice, without-guess, order, Holds}
 use Rattle.drawing.specs.Check as check
 use check.{twice, namedAt, named, meets, guessAt, guessed, anyUnguessed, wrongPlace, wrongLabelTest, noSuchPartTest, lacks, withoutGuessTest, test, checkOf}
 
@@ -31,13 +31,10 @@ listed without-guess = List·Memᴰ·tail (List·Memᴰ·tail (List·Memᴰ·tai
 -- ---- labels
 
 module _ (es : List Entry) where
-  says-named : (s : Shape) (suffix l : Label) → Says (named es (declaring s) suffix l) (Named es s suffix l)
-  unfolding named namedAt
-  says-named s suffix l = says-any _ _ (λ j. says-and (says-eq _ _) (says-iff sym sym (says-same _ _))) (length es)
-
   pub says-meets : (n : Need) (l : Label) → Says (meets es n l) (Meets es n l)
+  unfolding named namedAt
   says-meets [] l = says-never
-  says-meets (c ∷ cs) l = says-or (says-named (c .shape) (c .suffix) l) (says-meets cs l)
+  says-meets (c ∷ cs) l = says-or (says-any _ _ (λ j. says-and (says-eq _ _) (says-iff sym sym (says-same _ _))) (length es)) (says-meets cs l)
 
   pub says-guessed : (l : Label) (p : Part) → Says (guessed es (p .guess) (p .suffix) l) (Guessed es l p)
   unfolding guessed guessAt

@@ -23,7 +23,7 @@ use Rattle.record.proofs.Told.{says-malformed, passed-iff}
 use Rattle.record.proofs.WellFormed.{well-formed-iff}
 use Rattle.index.specs.Labels.{drawn, kindNo, lowestOr}
 use Rattle.index.proofs.Drawn.{drawn-length, drawn-kind, entries-drawn}
-use Rattle.index.proofs.First.{is-some, is-none}
+use Rattle.index.proofs.First.{lowest-is}
 use Rattle.drawing.specs.declared.Checked.the-variants as checked
 use Rattle.drawing.specs.Faults as faults
 use faults.{Fault, malformed, behind30, numberOf}
@@ -60,10 +60,10 @@ module _ (es : List Entry) (n k : ℕ) (h : k < length behind30) (i : ℕ) (e : 
   open-up = rw (add-one, drop-cons behind30 k malformed h) refl
 
   pub stops : i < n → first (drop k behind30) (test es) n ≡ refused (faultAt k) i
-  stops g = open-up ∙ ap (λ (o : Option ℕ). tell (faultAt k) o (first (drop (k + 1) behind30) (test es) n)) (is-some n (test es (faultAt k)) i by-fault g)
+  stops g = open-up ∙ ap (λ (o : Option ℕ). tell (faultAt k) o (first (drop (k + 1) behind30) (test es) n)) (lowest-is n (test es (faultAt k)) i by-fault .0 g)
 
   pub goes-on : n ≤ i → first (drop k behind30) (test es) n ≡ first (drop (k + 1) behind30) (test es) n
-  goes-on g = open-up ∙ ap (λ (o : Option ℕ). tell (faultAt k) o (first (drop (k + 1) behind30) (test es) n)) (is-none n (test es (faultAt k)) i by-fault g)
+  goes-on g = open-up ∙ ap (λ (o : Option ℕ). tell (faultAt k) o (first (drop (k + 1) behind30) (test es) n)) (lowest-is n (test es (faultAt k)) i by-fault .1 g)
 
 pub ends : (t : Fault → ℕ → Bool) (n k : ℕ) → length behind30 ≤ k → first (drop k behind30) t n ≡ passed
 unfolding first

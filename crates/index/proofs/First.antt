@@ -1,5 +1,5 @@
 -- The first number that passes a test, from a number on: where the search goes on, stops and ends; and a store in a list. Assumes nothing.
-use mathlib.Core.Path.{_≡_, refl, sym, ap, _∙_, subst}
+use mathlib.Core.Path.{_≡_, refl, sym, ap, _∙_}
 use mathlib.Core.Bool.{Bool, true, false, cond, true≢false}
 use mathlib.Core.Option.{Option, none, some}
 use mathlib.Core.List.{List}
@@ -36,22 +36,14 @@ module _ (n : ℕ) (p : ℕ → Bool) where
   unfolding lowestOr
   lowest-nowhere f = sym (ap (λ (o : Option ℕ). placeOr o n) (goes-through p n f))
 
-  module _ (i : ℕ) (e : i ≡ lowestOr n p) where
-    pub is-some : i < n → lowest n p ≡ some i
-    unfolding lowestOr
-    is-some h = go (lowest n p) e
-      where
-        go : (o : Option ℕ) → i ≡ placeOr o n → o ≡ some i
-        go (some j) q = ap some (sym q)
-        go none q = absurd (lt-irrefl n (subst (λ (k : ℕ). k < n) q h))
-
-    pub is-none : n ≤ i → lowest n p ≡ none
-    unfolding lowestOr
-    is-none h = go (lowest n p) e (searched p (λ j. p j ≡ true) (λ j. says-so) n)
-      where
-        go : (o : Option ℕ) → i ≡ placeOr o n → Searched (λ j. p j ≡ true) n o → o ≡ none
-        go (some j) q (at a) = absurd (lt-irrefl n (omega (arith, a .inside, q, h)))
-        go none q s = refl
+  -- a number that stands for the lowest place is that place, or stands for none
+  pub lowest-is : (i : ℕ) → i ≡ lowestOr n p → (i < n → lowest n p ≡ some i) × (n ≤ i → lowest n p ≡ none)
+  unfolding lowestOr
+  lowest-is i e = go (lowest n p) e (searched p (λ j. p j ≡ true) (λ j. says-so) n)
+    where
+      go : (o : Option ℕ) → i ≡ placeOr o n → Searched (λ j. p j ≡ true) n o → (i < n → o ≡ some i) × (n ≤ i → o ≡ none)
+      go (some j) q (at a) = (λ h. ap some (sym q), λ h. absurd (lt-irrefl n (omega (arith, a .inside, q, h))))
+      go none q s = (λ h. absurd (lt-irrefl n (omega (arith, q, h))), λ h. refl)
 
   -- what is found stands below i exactly if something below i passes
   pub lowest-below : (i : ℕ) → i ≤ n → ltb (lowestOr n p) i ≡ anyBelow i p

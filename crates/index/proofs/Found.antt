@@ -9,10 +9,10 @@ use lib.ListN.{length, getD}
 use lib.Dec.{ltb}
 use borrow.Author.Tests.{lt-ltb, le-ltb, ltb-true}
 use Rattle.refusal.specs.First.{anyBelow}
-use Rattle.refusal.proofs.Says.{says-so, says-and}
+use Rattle.refusal.proofs.Says.{says-and}
 use Rattle.record.specs.Record.{mostRecords}
 use Rattle.record.specs.Entry.{Label, Entry}
-use Rattle.index.specs.Labels.{kindNo, nameNo, within, labelled, lowestOr}
+use Rattle.index.specs.Labels.{kindNo, nameNo, labelled, lowestOr}
 use Rattle.index.specs.Chains.{chains, room, nextIn, hashOf, hashed, from, headOf, tableOf, Made, Chained, walk, walkOf}
 use Rattle.index.proofs.Laws.{says-same, says-within, hash-small}
 use Rattle.index.proofs.First.{FirstIs, skip, from-more, from-stop, from-end, from-is, from-plain, lowest-below}
@@ -86,17 +86,12 @@ chained {es} {low} {high} {cs} {after} few m long =
     }
 
 module _ (es : List Entry) (lo hi low high : ℕ) (cs : List ℕ) (l : Label) (c : Chained es lo hi cs) (above : lo ≤ low) (below : high ≤ hi) where
-  inside : (kind : ℕ) → within low high kind ≡ true → within lo hi kind ≡ true
-  inside kind e =
-      let w = says-within low high kind .so e in
-      says-within lo hi kind .back (omega (arith, w .0), omega (arith, w .1))
-
   -- what has the label has its hash
   labelled-hashed : (i : ℕ) → labelled es low high l i ≡ true → hashed es lo hi (hashOf l) i ≡ true
   unfolding labelled
   labelled-hashed i e =
-      let w = says-and says-so (says-same (nameNo es i) l) .so e in
-      says-hashed es lo hi (hashOf l) i .back (inside (kindNo es i) (w .0), ap hashOf (w .1))
+      let w = says-and (says-within low high (kindNo es i)) (says-same (nameNo es i) l) .so e in
+      says-hashed es lo hi (hashOf l) i .back (says-within lo hi (kindNo es i) .back (omega (arith, w .0), omega (arith, w .0)), ap hashOf (w .1))
 
   module _ (i : ℕ) (lt : i < length es) (h : hashed es lo hi (hashOf l) i ≡ true) where
     next-is : nextIn cs i ≡ from (hashed es lo hi (hashOf l)) (length es) (i + 1)

@@ -94,21 +94,17 @@ module _ (es : List Entry) (low high : ℕ) where
 in-three : (m n : ℕ) (cs : List ℕ) → take m cs ++ (take n (drop m cs) ++ drop (m + n) cs) ≡ cs
 in-three m n cs = rw (← drop-drop n m cs, take-append-drop n (drop m cs)) (take-append-drop m cs)
 
--- behind a first list
-getD-behind : (a rest : List ℕ) (n i : ℕ) → length a ≡ n → n ≤ i → getD (a ++ rest) i 0 ≡ getD rest (i - n) 0
-getD-behind a rest n i e h =
-    let z : i ≡ length a + (i - n) = omega (arith, e, h) in
-    ap (λ (k : ℕ). getD (a ++ rest) k 0) z ∙ getD-append-add a rest (i - n) 0
-
 module _ (es : List Entry) (low high : ℕ) (before : List ℕ) where
   pub table-head : (h : ℕ) → h < chains → getD (tableOf es low high before) h 0 ≡ headOf es low high h
   table-head h b = List·getD-append (upTo chains (headOf es low high)) (upTo (length es) (nextOf es low high) ++ drop (chains + length es) before) 0 h (rw length-up-to b) ∙ getD-up-to chains (headOf es low high) h 0 b
 
   pub table-next : (i : ℕ) → i < length es → nextIn (tableOf es low high before) i ≡ nextOf es low high i
   table-next i b =
-      let e : chains + i - chains ≡ i = omega arith in
-      getD-behind (upTo chains (headOf es low high)) (upTo (length es) (nextOf es low high) ++ drop (chains + length es) before) chains (chains + i) (length-up-to chains (headOf es low high)) (omega arith)
-      ∙ rw e (List·getD-append (upTo (length es) (nextOf es low high)) (drop (chains + length es) before) 0 i (rw length-up-to b) ∙ getD-up-to (length es) (nextOf es low high) i 0 b)
+      let a = upTo chains (headOf es low high) in
+      let n = upTo (length es) (nextOf es low high) in
+      let rest = drop (chains + length es) before in
+      ap (λ (k : ℕ). getD (a ++ (n ++ rest)) (k + i) 0) (sym (length-up-to chains (headOf es low high)))
+      ∙ getD-append-add a (n ++ rest) i 0 ∙ List·getD-append n rest 0 i (rw length-up-to b) ∙ getD-up-to (length es) (nextOf es low high) i 0 b
 
   pub table-long : chains + length es ≤ length before → length (tableOf es low high before) ≡ length before
   table-long h = simp (length-append, length-drop, length-up-to) (omega arith)

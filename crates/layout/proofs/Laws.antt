@@ -22,7 +22,7 @@ use Rattle.layout.specs.declared.Pushed.the-variants as P
 use Rattle.refusal.specs.declared.Refusal.{Refusal}
 use Rattle.refusal.specs.First.{lowest, first, once, passed, answered}
 use Rattle.refusal.specs.Refusal.{refusal}
-use Rattle.refusal.proofs.Once.{clear-passes, passed-clear, answered-passed, answered-good, answered-pair}
+use Rattle.refusal.proofs.Once.{clear-passes, passed-clear, answered-pair}
 use Rattle.layout.specs.Push.{State, state, over, onward, toldIn, filled, pushed, Fills, stageAfter, doneOf}
 use Rattle.layout.specs.Refusals.{Reason, reasonNumber, cannot-be, wrong-stage, full, short, few-ids, no-shape, pushOrder, doneOrder, lookOrder, Rising, impossible, barsPush, barsDone, barsLook, pushTold, doneTold, lookTold}
 use Rattle.layout.proofs.Placed.{as-refused, is-passed, the-place, as-found}
@@ -156,12 +156,9 @@ pushed-good l n r e = let z : _≡_ {A = ℕ} 0 1 = cc in omega arith
 -- a good answer and the slices are the state after the push
 pub good-state : (k : ShapeKind) (vs : List Float) (s : State) (l : Layout) (n : ℕ) (ids : List ℕ) (values : List Float) → Fills k vs s (P.Good l n) ids values → state l n ids values ≡ pushed k vs s
 good-state k vs s l n ids values f =
-    let clear = answered-good reasonNumber _ (toldIn k s) _ _ (pushed-good l n) (sym (f .answer)) in
-    let same = answered-passed reasonNumber (λ r. s) (toldIn k s) (filled k vs s) clear in
-    let answer = f .answer ∙ answered-passed reasonNumber P.Refused (toldIn k s) (P.Good (filled k vs s .layout) (filled k vs s .next)) clear in
-    let layout-is : l ≡ filled k vs s .layout = cc answer in
-    let next-is : n ≡ filled k vs s .next = cc answer in
-    rw (layout-is, next-is, f .ids-are, f .values-are, same)
+    answered-pair reasonNumber (λ (z : Pushed) (t : State). P.Good l n ≡ z → ids ≡ t .ids → values ≡ t .values → state l n ids values ≡ t) _ _ (toldIn k s) _ _
+    (λ r e i v. absurd (pushed-good l n r (sym e))) (λ c e i v. let a : l ≡ withOne k (s .layout) = cc in let b : n ≡ s .next + length vs = cc in rw (a, b, i, v))
+    (f .answer) (f .ids-are) (f .values-are)
 
 -- a refused push leaves all as it was
 pub refused-state : (k : ShapeKind) (vs : List Float) (s : State) (r : Refusal) (ids : List ℕ) (values : List Float) → Fills k vs s (P.Refused r) ids values → s ≡ pushed k vs s

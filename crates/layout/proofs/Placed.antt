@@ -3,22 +3,18 @@ use mathlib.Core.Path.{_≡_, sym, _∙_, ap}
 use Prim.Native.Nat.{ℕ}
 use native.Mathlib.Omega.{arith}
 use Rattle.refusal.specs.declared.Refusal.{Refusal}
-use Rattle.refusal.specs.First.{Answer, passed, refused, answered}
-use Rattle.refusal.proofs.Once.{answered-passed, answered-good}
+use Rattle.refusal.specs.First.{Answer, passed, answered}
+use Rattle.refusal.proofs.Once.{answered-passed, answered-good, answered-pair}
 use Rattle.layout.specs.declared.Place.{Place}
 use Rattle.layout.specs.declared.Place.the-variants.{At, Not}
 use Rattle.layout.specs.Refusals.{Reason, reasonNumber}
 
--- a refusal that is told for a place is told for any answer
-refusal-told : {A : Type 0} (refuse : Refusal → A) (x : Answer Reason) (good : A) (at : ℕ) (r : Refusal) → answered reasonNumber Not x (At at) ≡ Not r → refuse r ≡ answered reasonNumber refuse x good
-unfolding answered
-refusal-told refuse passed good at r e = let z : _≡_ {A = ℕ} 0 1 = cc in absurd (omega arith)
-refusal-told refuse (refused f i) good at r e = cc
-
 module _ (x : Answer Reason) (at : ℕ) (place : Place) (asked : place ≡ answered reasonNumber Not x (At at)) where
   -- where a place is refused, so is what asked for it
   pub as-refused : {A : Type 0} (refuse : Refusal → A) (good : A) (r : Refusal) → place ≡ Not r → refuse r ≡ answered reasonNumber refuse x good
-  as-refused refuse good r e = refusal-told refuse x good at r (sym asked ∙ e)
+  as-refused {A} refuse good r e =
+      answered-pair reasonNumber (λ (z : Place) (t : A). z ≡ Not r → refuse r ≡ t) Not refuse x (At at) good
+      (λ r′ q. cc) (λ c q. let z : _≡_ {A = ℕ} 0 1 = cc in absurd (omega arith)) (sym asked ∙ e)
 
   module _ (at′ : ℕ) (found : place ≡ At at′) where
     -- where a place is found, nothing is told
