@@ -13,6 +13,7 @@ use borrow.Author.Tests.{ne-eqb}
 use Rattle.refusal.specs.declared.Refusal.{Refusal}
 use Rattle.refusal.specs.Refusal.{refusal}
 use Rattle.refusal.specs.First.{Answer, passed, refused, lowest, tell, first, once, answered, Told, NoneHolds}
+use Rattle.refusal.proofs.Once.{answered-good}
 use Rattle.refusal.proofs.Says.{Says, says-and, says-eq}
 use Rattle.refusal.proofs.Right.{refused-iff, passed-iff}
 use Rattle.record.specs.Entry.{Entry}
@@ -117,10 +118,7 @@ module _ (es : List Entry) (room : Room) where
   pub lower-good-iff : (lowerOf es room ≡ good) ↔ NoneHolds (Causes es room) (places es) causes
   unfolding answered
   lower-good-iff = (
-    λ e. passed-iff tests (Causes es room) says (places es) causes .0 (none-told told (sym lower-is ∙ e)),
+    λ e. passed-iff tests (Causes es room) says (places es) causes .0
+        (answered-good causeNumber L.Refused told good good (λ r q. let z : _≡_ {A = ℕ} 0 1 = cc in omega arith) (sym lower-is ∙ e)),
     λ n. lower-is ∙ rw (passed-iff tests (Causes es room) says (places es) causes .1 n) refl,
   )
-    where
-      none-told : (a : Answer Cause) → answered causeNumber L.Refused a good ≡ good → a ≡ passed
-      none-told passed e = refl
-      none-told (refused c i) e = let z : _≡_ {A = ℕ} 0 1 = cc in absurd (omega arith)

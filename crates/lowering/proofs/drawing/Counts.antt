@@ -1,18 +1,19 @@
 -- The counts of a drawing are the lengths of the lists that its records are picked into: each record adds to both alike. Assumes nothing.
 use mathlib.Core.Path.{_≡_, refl, sym, ap, _∙_}
 use mathlib.Core.Bool.{Bool, true, false, cond}
-use mathlib.Core.List.{List, [], _∷_}
+use mathlib.Core.List.{List, [], _∷_, map}
 use Prim.Native.Nat.{ℕ, zero, suc, _+_, _*_, _≤_, _<_}
 use native.Mathlib.Nat.{le-refl}
 use native.Mathlib.Omega.{arith}
-use lib.ListN.{length, take, drop, length-append}
+use lib.ListN.{length, getD, take, drop, length-append}
 use lib.Seq.{take-length}
 use Rattle.refusal.proofs.Says.{says-eq}
 use Rattle.layout.specs.Slots as layout
 use Rattle.layout.proofs.Laws.{can-be}
 use Rattle.layout.specs.Refusals.{impossible}
 use Rattle.record.specs.Kinds.{firstRule, lastRule}
-use Rattle.record.specs.Entry.{Label, Entry, noEntry, entryAt, labelNo}
+use Rattle.record.specs.Entry.{Label, Entry, noEntry, entryAt, labelNo, upTo}
+use Rattle.record.proofs.UpTo.{getD-up-to}
 use Rattle.index.specs.Labels.{kindNo, within}
 use Rattle.drawing.specs.Needs.{Shape, point, circle, arc, declaring}
 use Rattle.drawing.specs.declared.Checked.the-variants as checked
@@ -20,12 +21,12 @@ use Rattle.refusal.specs.First.{Answer, passed, refused}
 use Rattle.layout.specs.Run.{slotsFor}
 use Rattle.drawing.specs.Faults.{Fault}
 use Rattle.drawing.specs.Check.{countBelow, answer, checkOf, checkedOf}
-use Rattle.lowering.specs.Slots.{slotsOfShape, labelsOf, slotsOf, slots, size, before, howMany, layoutOf}
+use Rattle.lowering.specs.Slots.{Slot, slotsOfShape, labelsOf, slotsOf, slots, size, before, howMany, layoutOf}
 use Rattle.lowering.specs.Rows.{rulesOf}
-use Rattle.lowering.specs.Demand.{Declares, rulesBefore}
+use Rattle.lowering.specs.Demand.{noSlot, Declares, rulesBefore}
 use Rattle.index.proofs.Laws.{within-one}
 use Rattle.ground.proofs.Lists.{either-le}
-use Rattle.ground.proofs.Pieces.{each-of, length-flat, Picks, picks-suc, picks-around}
+use Rattle.ground.proofs.Pieces.{getD-map, each-of, length-flat, Picks, picks-suc, picks-around}
 
 -- ---- what is picked
 
@@ -74,15 +75,8 @@ count-le kinds low high (suc n) = omega (arith, count-le kinds low high n, eithe
 -- ---- shapes and rules
 
 module _ (es : List Entry) where
-  -- of the first n records
-  pub labels-before : (s : Shape) (n : ℕ) → n ≤ length es → length (labelsOf s (take n es)) ≡ before s es n
-  labels-before s n h = picks-count _ _ _ _ (labels-pick s) es n h
-
   pub labels-all : (s : Shape) → length (labelsOf s es) ≡ howMany s es
   labels-all s = picks-all _ _ _ _ (labels-pick s) es
-
-  pub rules-before : (n : ℕ) → n ≤ length es → length (rulesOf (take n es)) ≡ rulesBefore es n
-  rules-before n h = picks-count _ _ _ _ rules-pick es n h
 
   pub rules-all : length (rulesOf es) ≡ rulesBefore es (length es)
   rules-all = picks-all _ _ _ _ rules-pick es
@@ -99,6 +93,10 @@ pub length-shape : (s : Shape) (l : Label) → length (slotsOfShape s l) ≡ siz
 length-shape point l = refl
 length-shape circle l = refl
 length-shape arc l = refl
+
+-- what f makes of them, slot by slot
+pub slots-by : {A : Type 0} (f : Slot → A) (g : ℕ → A) (d : A) (s : Shape) (l : Label) → map f (slotsOfShape s l) ≡ upTo (size s) g → (k : ℕ) → k < size s → f (getD (slotsOfShape s l) k noSlot) ≡ g k
+slots-by f g d s l e k h = sym (getD-map f (slotsOfShape s l) k noSlot d (rw (length-shape s l) h)) ∙ rw e (getD-up-to (size s) g k d h)
 
 pub length-of : (s : Shape) (es : List Entry) → length (slotsOf s es) ≡ length (labelsOf s es) * size s
 length-of s es = length-flat (slotsOfShape s) (size s) (labelsOf s es) (each-of (λ l. length (slotsOfShape s l) ≡ size s) (labelsOf s es) [] (λ j h. length-shape s _))

@@ -7,7 +7,6 @@ use native.Mathlib.Omega.{arith}
 use lib.Dec.{eqb}
 use lib.ListN.{length, take, drop, length-drop}
 use lib.Seq.{length-take-le}
-use Rattle.ground.proofs.Lists.{either-le}
 use Rattle.layout.specs.declared.Layout.{Layout}
 use Rattle.layout.specs.declared.PointIds.{PointIds}
 use Rattle.layout.specs.declared.PointIds.the-variants as PI
@@ -20,10 +19,10 @@ use Rattle.layout.specs.Look.{pointIds, circleIds, arcSlotIds}
 use Rattle.record.specs.Entry.{Label, Entry}
 use Rattle.index.specs.Labels.{kindNo}
 use Rattle.lowering.specs.declared.spans.Span.{Span}
-use Rattle.lowering.specs.Slots.{y-axis}
 use Rattle.lowering.specs.Rows.{Naming, whole, part, center}
-use Rattle.lowering.specs.Steps.{Added, byKind, shapeNo, stemOf, centerSpan, spanOf, pointSix, circleSix, arcSix, sixOf, numberNo, spanIds}
+use Rattle.lowering.specs.Steps.{Added, byKind, shapeNo, stemOf, spanOf, pointSix, circleSix, arcSix, sixOf, numberNo, spanIds}
 use Rattle.lowering.proofs.ids.Tested.{by-test}
+use Rattle.lowering.proofs.ids.Spans.{center-small}
 
 -- what holds of three holds of the one that a number chooses
 by-kind : {A : Type 0} (P : A → Type 0) (kind m n : ℕ) (x y z : A) → P x → P y → P z → P (byKind kind m n x y z)
@@ -31,20 +30,11 @@ by-kind P kind m n x y z a b c = by-test P (eqb kind m) x (cond (eqb kind n) y z
 
 -- ---- spans
 
-abbrev Inside : Span → Type 0
-Inside s = s .first + s .count ≤ 6
-
 module _ (es : List Entry) (third : ℕ) (l : Label) where
-  axis-small : cond (eqb third y-axis) 1 0 ≤ 1
-  axis-small = either-le (eqb third y-axis) 1 0 1 (omega arith) (omega arith)
-
-  center-inside : (name : Label) → Inside (centerSpan es third name)
-  center-inside name = omega (arith, axis-small, either-le (eqb (kindNo es (shapeNo es name)) 3) 4 0 4 (omega arith) (omega arith))
-
   pub span-inside : (n : Naming) → spanOf es n third l .first + spanOf es n third l .count ≤ 6
   unfolding spanOf
-  span-inside part = center-inside (stemOf l)
-  span-inside center = center-inside l
+  span-inside part = omega (arith, center-small (kindNo es (shapeNo es (stemOf l))) third)
+  span-inside center = omega (arith, center-small (kindNo es (shapeNo es l)) third)
   span-inside whole = by-kind (λ (n : ℕ). 0 + n ≤ 6) (kindNo es (shapeNo es l)) 1 2 2 3 6 (omega arith) (omega arith) (omega arith)
 
 -- ---- six ids

@@ -1,7 +1,7 @@
 -- What a rule's label names, step by step as the code finds it: by its rule's kind, the whole shape, a part or the center; by the chains of the
 -- declarations, the shape's record; by its kind, the slots. Assumes nothing.
 use mathlib.Core.Path.{_≡_, refl, sym, _∙_}
-use mathlib.Core.Bool.{Bool, true, false, cond}
+use mathlib.Core.Bool.{Bool, false, cond}
 use mathlib.Core.List.{List}
 use Prim.Native.Nat.{ℕ, _+_, _-_, _≤_, _<_}
 use native.Mathlib.Omega.{arith}
@@ -9,7 +9,7 @@ use native.Mathlib.Numerals.{add-one}
 use lib.ListN.{length, getD, set, take, drop, length-set, length-drop}
 use lib.Seq.{paste, paste-zero, paste-suc, getD-take, getD-drop, length-take-le, take-length}
 use lib.Dec.{ltb, eqb}
-use borrow.Author.Tests.{lt-ltb, le-ltb, ltb-false}
+use borrow.Author.Tests.{ltb-false}
 use Rattle.ground.proofs.Lists.{either-le}
 use Rattle.layout.specs.Push.{over}
 use Rattle.record.specs.Kinds.{newPoint, newArc}
@@ -21,24 +21,16 @@ use Rattle.index.proofs.Drawn.{drawn-kind}
 use Rattle.index.proofs.Found.{found}
 use Rattle.lowering.specs.Slots.{y-axis}
 use Rattle.lowering.specs.Steps.{shapeNo, sizeBy, centerBy, axisAt, endsIn, wholeSpan, centerSpan}
+use Rattle.lowering.proofs.ids.Tested.{by-test}
 
 -- ---- the end of a label
 
-module _ (l suffix : Label) where
-  pub ends-short : length l < length suffix → false ≡ endsIn l suffix
-  ends-short h = rw (lt-ltb (length l) (length suffix) h) refl
-
-  pub ends-long : length suffix ≤ length l → endsIn l suffix ≡ same (drop (length l - length suffix) l) suffix
-  ends-long h = rw (le-ltb (length l) (length suffix) h) refl
-
-  -- what is taken off a label that ends in another is no longer than it
-  pub ends-length : cond (endsIn l suffix) (length suffix) 0 ≤ length l
-  ends-length = go (ltb (length l) (length suffix)) refl (same (drop (length l - length suffix) l) suffix)
-    where
-      go : (t : Bool) → ltb (length l) (length suffix) ≡ t → (b : Bool) → cond (cond t false b) (length suffix) 0 ≤ length l
-      go true e b = omega arith
-      go false e true = ltb-false (length l) (length suffix) e
-      go false e false = omega arith
+-- what is taken off a label that ends in another is no longer than it
+pub ends-length : (l suffix : Label) → cond (endsIn l suffix) (length suffix) 0 ≤ length l
+ends-length l suffix =
+    let b = same (drop (length l - length suffix) l) suffix in
+    by-test (λ (t : Bool). cond t (length suffix) 0 ≤ length l) (ltb (length l) (length suffix)) false b (λ e. omega arith)
+    (λ e. either-le b (length suffix) 0 (length l) (ltb-false (length l) (length suffix) e) (omega arith))
 
 -- ---- spans
 

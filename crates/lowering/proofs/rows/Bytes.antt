@@ -18,7 +18,7 @@ use Rattle.lowering.specs.Rows.{namingOf, names, namedIds, rowFor, rules
 use Rattle.lowering.specs.Demand.{RowOf, rulesBefore}
 use Rattle.ground.proofs.Pieces.{Each, each-map, each-at, each-of, each-flat, length-flat, piece-at, getD-map, picks-around}
 use Rattle.index.proofs.Laws.{says-within}
-use Rattle.lowering.proofs.drawing.Counts.{rules-pick, rules-before, picks-inside}
+use Rattle.lowering.proofs.drawing.Counts.{rules-pick, picks-count, picks-inside}
 use Rattle.lowering.proofs.ids.Tested.{ids-within}
 use Rattle.lowering.proofs.drawing.Fine.{Fine}
 use Rattle.lowering.proofs.rows.Labels.{ids-few, carries}
@@ -28,11 +28,6 @@ use Rattle.lowering.proofs.rows.Labels.{ids-few, carries}
 module _ (es : List Entry) (i : ℕ) (h : i < length es) (u : Rule (kindNo es i)) where
   pub rule-inside : rulesBefore es i < length (rulesOf es)
   rule-inside = picks-inside _ _ _ _ rules-pick es i h (says-within firstRule lastRule (kindNo es i) .back u)
-
-  pub rule-at : getD (rulesOf es) (rulesBefore es i) noEntry ≡ entryAt es i
-  rule-at =
-      ap (λ (l : List Entry). getD l (rulesBefore es i) noEntry) (picks-around _ _ _ rules-pick es i noEntry h (says-within firstRule lastRule (kindNo es i) .back u))
-      ∙ getD-at (rulesOf (take i es)) (entryAt es i) (rulesOf (drop (suc i) es)) noEntry (rulesBefore es i) (rules-before es i (omega (arith, h)))
 
 -- ---- all rows
 
@@ -60,7 +55,8 @@ module _ (es : List Entry) (next : ℕ) where
     unfolding rowsOf
     getD-rows =
         getD-map (rowFor es next) (rulesOf es) (rulesBefore es i) noEntry (rowFor es next noEntry) (rule-inside es i h u)
-        ∙ ap (rowFor es next) (rule-at es i h u)
+        ∙ ap (λ (l : List Entry). rowFor es next (getD l (rulesBefore es i) noEntry)) (picks-around _ _ _ rules-pick es i noEntry h (says-within firstRule lastRule (kindNo es i) .back u))
+        ∙ ap (rowFor es next) (getD-at (rulesOf (take i es)) (entryAt es i) (rulesOf (drop (suc i) es)) noEntry (rulesBefore es i) (picks-count _ _ _ _ rules-pick es i (omega (arith, h))))
 
     -- the row of a rule, whatever follows the rows
     pub row-at : (rest : List ℕ) → rowNo (encodeRows (rowsOf es next) ++ rest) (rulesBefore es i) ≡ encodeRow (rowFor es next (entryAt es i))

@@ -2,7 +2,7 @@
 -- ids it comes to. Assumes nothing.
 use mathlib.Core.Path.{_≡_, refl, sym, ap, _∙_}
 use mathlib.Core.Logic.{inl, inr}
-use mathlib.Core.Bool.{Bool, true, false, _||_, cond, true≢false}
+use mathlib.Core.Bool.{Bool, true, false, _||_, true≢false}
 use mathlib.Core.List.{List, [], _∷_, _++_, append-nil}
 use Prim.Native.Nat.{ℕ, zero, suc, _+_, _-_, _≤_, _<_}
 use native.Mathlib.Omega.{arith}
@@ -33,7 +33,7 @@ use Rattle.ground.proofs.Pieces.{sum-flat}
 use Rattle.lowering.specs.Steps.{sizeBy, endsIn, stemOf, centerSpan, spanOf}
 use Rattle.lowering.proofs.drawing.Fine.{Fine, NoDot, plain-no-dot, plain-name}
 use Rattle.lowering.proofs.drawing.Found.{declared-found}
-use Rattle.lowering.proofs.ids.Tested.{ids-named, ids-has, ids-rise}
+use Rattle.lowering.proofs.ids.Tested.{by-test, ids-named, ids-has, ids-rise}
 use Rattle.lowering.proofs.ids.Named.{says-names, PairPart, the-point, circle-center, arc-center, XY, the-x, the-y, stands, ids-whole, ids-part}
 
 -- ---- what the table needs
@@ -85,13 +85,10 @@ ends-in-own a c =
 
 -- one without a dot
 no-center : (a : Label) → NoDot a → endsIn a (bytes ".center") ≡ false
-no-center a n = go (ltb (length a) 7) refl
-  where
-    go : (b : Bool) → ltb (length a) 7 ≡ b → cond b false (same (drop (length a - 7) a) (bytes ".center")) ≡ false
-    go true e = refl
-    go false e =
-        refuted (says-same (drop (length a - 7) a) (bytes ".center"))
-        (λ q. n (length a - 7 + 0) (omega (arith, ltb-false (length a) 7 e)) (sym (getD-drop (length a - 7) a 0 0) ∙ ap (λ (z : Label). getD z 0 0) q))
+no-center a n =
+    by-test (λ (t : Bool). t ≡ false) (ltb (length a) 7) false (same (drop (length a - 7) a) (bytes ".center")) (λ e. refl)
+    (λ e. refuted (says-same (drop (length a - 7) a) (bytes ".center"))
+    (λ q. n (length a - 7 + 0) (omega (arith, ltb-false (length a) 7 e)) (sym (getD-drop (length a - 7) a 0 0) ∙ ap (λ (z : Label). getD z 0 0) q)))
 
 stem-is : (a : Label) → NoDot a → {s : Shape} {u : Label} → PairPart s u → stemOf (a ++ u) ≡ a
 stem-is a n the-point = rw (append-nil, no-center a n) (take-all (length a - 0) a (omega arith))

@@ -16,7 +16,7 @@ use Rattle.lowering.specs.Slots.{Slot, slot, slotsOfShape, labelsOf, slo
 use Rattle.lowering.specs.Demand.{Declares}
 use Rattle.ground.proofs.Pieces.{Each, each-append, each-flat, flat-append, picks-around, picks-each}
 use Rattle.index.proofs.Laws.{within-one}
-use Rattle.lowering.proofs.drawing.Counts.{labels-pick, labels-before, length-of, all-of}
+use Rattle.lowering.proofs.drawing.Counts.{labels-pick, picks-count, length-of, all-of}
 use Rattle.lowering.proofs.drawing.Fine.{Fine, same-record, Behind}
 
 -- ---- what holds of each declared shape's label holds of each slot's
@@ -118,7 +118,7 @@ around es w i s d =
       is = of-kinds s es ∙ rw (own-slots es w i s d) (simp append-assoc);
       place =
           length-append (frontOf s es) (slotsOf s (take i es))
-          ∙ front-long s es i _ (length-of s (take i es) ∙ rw (labels-before es s i (omega (arith, d .inside))) refl);
+          ∙ front-long s es i _ (length-of s (take i es) ∙ rw (picks-count _ _ _ _ (labels-pick s) es i (omega (arith, d .inside))) refl);
       not-before =
           each-append (Other (nameNo es i)) (frontOf s es) (slotsOf s (take i es)) (front-other es w i s d)
           (others es w i s d s (take i es) (λ j. j)

@@ -8,15 +8,14 @@ use lib.ListN.{length, getD, length-append, List·getD-append}
 use lib.Seq.{getD-append-add}
 use Rattle.refusal.specs.First.{EachBelow}
 use Rattle.record.specs.Entry.{Label, Entry, upTo}
-use Rattle.record.proofs.UpTo.{getD-up-to}
 use Rattle.index.specs.Labels.{kindNo, nameNo}
 use Rattle.drawing.specs.Needs.{Shape, point, circle, arc}
 use Rattle.lowering.specs.Slots.{Slot, slotsOfShape, slots, size, firstSlot}
 use Rattle.lowering.specs.Offsets.{componentAt}
 use Rattle.lowering.specs.Demand.{noSlot, slotAt, Declares, ComponentOf, OneComponent}
 use Rattle.lowering.specs.Steps.{shapeOf}
-use Rattle.ground.proofs.Pieces.{Each, each-of, each-at, getD-map}
-use Rattle.lowering.proofs.drawing.Counts.{length-shape}
+use Rattle.ground.proofs.Pieces.{Each, each-of, each-at}
+use Rattle.lowering.proofs.drawing.Counts.{length-shape, slots-by}
 use Rattle.lowering.proofs.drawing.Fine.{Fine, shape-back, same-record}
 use Rattle.lowering.proofs.slots.Around.{Other, around, each-slot, each-of-all, each-own}
 
@@ -53,14 +52,11 @@ places-told point l = refl
 places-told circle l = refl
 places-told arc l = refl
 
-place-told : (s : Shape) (l : Label) (k : ℕ) → k < size s → componentAt s (getD (slotsOfShape s l) k noSlot .suffix) (getD (slotsOfShape s l) k noSlot .axis) ≡ k
-place-told s l k h =
-    sym (getD-map (λ (t : Slot). componentAt s (t .suffix) (t .axis)) (slotsOfShape s l) k noSlot 0 (rw (length-shape s l) h))
-    ∙ ap (λ (z : List ℕ). getD z k 0) (places-told s l)
-    ∙ getD-up-to (size s) (λ k. k) k 0 h
-
 one-place : (s : Shape) (l : Label) (a b : ℕ) → a < size s → b < size s → getD (slotsOfShape s l) a noSlot ≡ getD (slotsOfShape s l) b noSlot → a ≡ b
-one-place s l a b h g e = sym (place-told s l a h) ∙ ap (λ (t : Slot). componentAt s (t .suffix) (t .axis)) e ∙ place-told s l b g
+one-place s l a b h g e =
+    let at : Slot → ℕ = λ t. componentAt s (t .suffix) (t .axis) in
+    let told = slots-by at (λ k. k) 0 s l (places-told s l) in
+    sym (told a h) ∙ ap at e ∙ told b g
 
 -- a component has its shape's label
 pub label-of : (es : List Entry) (i : ℕ) (s : Shape) (k : ℕ) (t : Slot) → ComponentOf es i s k t → t .shape ≡ nameNo es i

@@ -2,7 +2,7 @@
 -- its components' names, and each component has a slot of its own. Assumes nothing.
 use mathlib.Core.Path.{_≡_, refl, sym, ap, _∙_, subst}
 use mathlib.Core.List.{List, map}
-use Prim.Native.Nat.{ℕ, _+_, _≤_, _<_}
+use Prim.Native.Nat.{ℕ, _+_, _≤_}
 use native.Mathlib.Omega.{arith}
 use lib.ListN.{length, getD, set, length-set}
 use lib.Seq.{getD-set-same, getD-set-other}
@@ -10,15 +10,14 @@ use lib.Ieee.{Float, nan}
 use Rattle.refusal.specs.First.{EachBelow}
 use Rattle.layout.specs.Slots as layout
 use Rattle.layout.specs.Parts.{shapeAt}
-use Rattle.layout.proofs.Parts.{part-at, reads}
-use Rattle.record.specs.Entry.{Label, Entry}
+use Rattle.layout.proofs.Parts.{reads}
+use Rattle.record.specs.Entry.{Label, Entry, upTo}
 use Rattle.index.specs.Labels.{nameNo}
 use Rattle.drawing.specs.Needs.{Shape, point, circle, arc}
 use Rattle.lowering.specs.Slots.{Slot, slotsOfShape, slots, size, before, kindFor, layoutOf, firstSlot}
 use Rattle.lowering.specs.Fields.{fieldOf}
-use Rattle.lowering.specs.Demand.{noSlot, slotAt, Declares, ComponentOf, HandsBack, ReadAs, ReadOut}
-use Rattle.ground.proofs.Pieces.{getD-map}
-use Rattle.lowering.proofs.drawing.Counts.{before-inside, length-shape, length-slots, possible}
+use Rattle.lowering.specs.Demand.{slotAt, Declares, ComponentOf, HandsBack, ReadAs, ReadOut}
+use Rattle.lowering.proofs.drawing.Counts.{before-inside, length-slots, possible, slots-by}
 use Rattle.lowering.proofs.drawing.Fine.{Fine}
 use Rattle.lowering.proofs.slots.Components.{slot-of, place-is}
 
@@ -28,37 +27,30 @@ module _ (vs : List Float) (at : ℕ) where
   abbrev shape : Shape → layout.Shape
   shape s = shapeAt (kindFor s) vs at
 
-  fields : (s : Shape) (l : Label) → map (fieldOf (shape s)) (slotsOfShape s l) ≡ layout.components (shape s)
-  fields point l = refl
-  fields circle l = refl
-  fields arc l = refl
+  first : getD vs at nan ≡ getD vs (at + 0) nan
+  first = let e : at ≡ at + 0 = omega arith in ap (λ (z : ℕ). getD vs z nan) e
+
+  fields : (s : Shape) (l : Label) → map (fieldOf (shape s)) (slotsOfShape s l) ≡ upTo (size s) (λ k. getD vs (at + k) nan)
+  fields point l = rw first refl
+  fields circle l = rw first refl
+  fields arc l = rw first refl
 
   of-kind : (s : Shape) → layout.kindOf (shape s) ≡ kindFor s
   of-kind point = refl
   of-kind circle = refl
   of-kind arc = refl
 
-  -- component k stands in the field that it is named for
-  field-is : (s : Shape) (l : Label) (k : ℕ) → k < size s → fieldOf (shape s) (getD (slotsOfShape s l) k noSlot) ≡ getD vs (at + k) nan
-  field-is s l k h =
-      sym (getD-map (fieldOf (shape s)) (slotsOfShape s l) k noSlot nan (rw (length-shape s l) h))
-      ∙ ap (λ (z : List Float). getD z k nan) (fields s l)
-      ∙ part-at (kindFor s) vs at k h
-
 -- ---- what is read out of the values of a drawing
 
 module _ (es : List Entry) (w : Fine es) (few : length es ≤ layout.mostShapes) where
   module _ (vs : List Float) (long : length (slots es) ≤ length vs) where
-    handed-back : (i : ℕ) (s : Shape) → Declares es i s → HandsBack es vs i (shapeAt (kindFor s) vs (firstSlot s es i))
-    handed-back i s d = go s (before-inside es i s d)
-      where
-        enough : layout.slotCount (layoutOf es) ≤ length vs
-        enough = omega (arith, long, length-slots es)
+    enough : layout.slotCount (layoutOf es) ≤ length vs
+    enough = omega (arith, long, length-slots es)
 
-        go : (s : Shape) → before s es i < before s es (length es) → HandsBack es vs i (shapeAt (kindFor s) vs (firstSlot s es i))
-        go point h = reads (layoutOf es) vs (possible es few) enough (kindFor point) (before point es i) h
-        go circle h = reads (layoutOf es) vs (possible es few) enough (kindFor circle) (before circle es i) h
-        go arc h = reads (layoutOf es) vs (possible es few) enough (kindFor arc) (before arc es i) h
+    handed-back : (i : ℕ) (s : Shape) → Declares es i s → HandsBack es vs i (shapeAt (kindFor s) vs (firstSlot s es i))
+    handed-back i point d = reads (layoutOf es) vs (possible es few) enough (kindFor point) (before point es i) (before-inside es i point d)
+    handed-back i circle d = reads (layoutOf es) vs (possible es few) enough (kindFor circle) (before circle es i) (before-inside es i circle d)
+    handed-back i arc d = reads (layoutOf es) vs (possible es few) enough (kindFor arc) (before arc es i) (before-inside es i arc d)
 
     -- each component is read out as what stands in its slot
     read-as : (i : ℕ) (s : Shape) (k : ℕ) (t : Slot) → ComponentOf es i s k t → ReadAs es vs i s t (getD vs (firstSlot s es i + k) nan)
@@ -68,7 +60,7 @@ module _ (es : List Entry) (w : Fine es) (few : length es ≤ layout.mostShapes)
           shape = shapeAt (kindFor s) vs at;
           of-kind = of-kind vs at s;
           handed-back = handed-back i s (c .declared);
-          field-is = ap (fieldOf (shapeAt (kindFor s) vs at)) (c .is) ∙ field-is vs at s (nameNo es i) k (c .one-of-it);
+          field-is = ap (fieldOf (shape vs at s)) (c .is) ∙ slots-by (fieldOf (shape vs at s)) (λ k. getD vs (at + k) nan) nan s (nameNo es i) (fields vs at s (nameNo es i)) k (c .one-of-it);
         }
 
   pub read-out : (vs : List Float) → length (slots es) ≤ length vs → (v : Float) → EachBelow (length (slots es)) (λ j. ReadOut es vs j v)

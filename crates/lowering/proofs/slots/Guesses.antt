@@ -1,5 +1,7 @@
 -- The numbers of a guess that is found by the chains of the guesses are those that its part starts at. Assumes nothing.
 use mathlib.Core.Path.{_≡_, refl, sym, _∙_, ap}
+use mathlib.Core.Bool.{cond}
+use lib.Dec.{eqb}
 use mathlib.Core.List.{List, _++_}
 use Prim.Native.Nat.{ℕ}
 use native.Mathlib.Omega.{arith}
@@ -13,7 +15,7 @@ use Rattle.index.specs.Labels.{drawn, labelled, lowestOr}
 use Rattle.index.specs.Chains.{Chained, walkOf}
 use Rattle.index.proofs.Drawn.{drawn-at}
 use Rattle.index.proofs.Found.{found}
-use Rattle.lowering.specs.Slots.{slot, x-axis, y-axis, no-axis, guessOf, startOf}
+use Rattle.lowering.specs.Slots.{slot, x-axis, y-axis, numberFor, guessOf, startOf}
 use Rattle.lowering.specs.Steps.{pairFor}
 
 -- the record of the guess with a label
@@ -29,17 +31,9 @@ module _ (text records : List ℕ) (l suffix : Label) (g : Record) (e : g ≡ de
   unfolding guessOf
   entry-is = drawn-at text records (guessNo text records (l ++ suffix)) ∙ ap (entryOf text) (sym e)
 
-  pub x-is : (v : Float) → v ≡ ofBits binary64 (g .x) → v ≡ startOf (drawn text records) (slot l suffix x-axis)
+  pub start-is : (axis : ℕ) (v : Float) → v ≡ ofBits binary64 (cond (eqb axis y-axis) (g .y) (g .x)) → v ≡ startOf (drawn text records) (slot l suffix axis)
   unfolding entryOf
-  x-is v ev = ev ∙ sym (ap (λ (t : Entry). ofBits binary64 (t .x)) entry-is)
-
-  pub number-is : (v : Float) → v ≡ ofBits binary64 (g .x) → v ≡ startOf (drawn text records) (slot l suffix no-axis)
-  unfolding entryOf
-  number-is v ev = ev ∙ sym (ap (λ (t : Entry). ofBits binary64 (t .x)) entry-is)
-
-  y-is : (v : Float) → v ≡ ofBits binary64 (g .y) → v ≡ startOf (drawn text records) (slot l suffix y-axis)
-  unfolding entryOf
-  y-is v ev = ev ∙ sym (ap (λ (t : Entry). ofBits binary64 (t .y)) entry-is)
+  start-is axis v ev = ev ∙ sym (ap (λ (t : Entry). ofBits binary64 (numberFor axis t)) entry-is)
 
   pub pair-is : (v w : Float) → v ≡ ofBits binary64 (g .x) → w ≡ ofBits binary64 (g .y) → record { x = v; y = w } ≡ pairFor (drawn text records) l suffix
-  pair-is v w ev ew = rw (x-is v ev, y-is w ew) refl
+  pair-is v w ev ew = rw (start-is x-axis v ev, start-is y-axis w ew) refl

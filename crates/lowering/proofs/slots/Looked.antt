@@ -1,6 +1,6 @@
 -- The id of a component is looked up under the name of the component: the lookup of a shape by its number clears its tests, and takes the ids of the
 -- shape's slots in the order of its components' names. Assumes nothing.
-use mathlib.Core.Path.{_≡_, refl, sym, ap, _∙_}
+use mathlib.Core.Path.{_≡_, refl, ap, _∙_}
 use mathlib.Core.List.{List, map}
 use Prim.Native.Nat.{ℕ, _+_, _≤_, _<_}
 use native.Mathlib.Omega.{arith}
@@ -17,15 +17,13 @@ use Rattle.layout.specs.Push.{onward}
 use Rattle.layout.proofs.Onward.{length-onward, getD-onward}
 use Rattle.layout.proofs.Laws.{look-passes}
 use Rattle.record.specs.Entry.{Label, Entry, upTo}
-use Rattle.record.proofs.UpTo.{getD-up-to}
 use Rattle.index.specs.Labels.{nameNo}
 use Rattle.drawing.specs.Needs.{Shape, point, circle, arc}
 use Rattle.lowering.specs.Slots.{Slot, slotsOfShape, slots, size, before, kindFor, layoutOf, firstSlot}
 use Rattle.lowering.specs.Fields.{Ids, of-point, of-circle, of-arc, idsKind, idOf}
 use Rattle.lowering.specs.Lower.{onto}
-use Rattle.lowering.specs.Demand.{noSlot, Declares, ComponentOf, HandsIds, LookedUp}
-use Rattle.lowering.proofs.drawing.Counts.{before-inside, length-shape, length-slots, possible}
-use Rattle.ground.proofs.Pieces.{getD-map}
+use Rattle.lowering.specs.Demand.{Declares, ComponentOf, HandsIds, LookedUp}
+use Rattle.lowering.proofs.drawing.Counts.{before-inside, slots-by, length-slots, possible}
 
 -- ---- the ids that are given
 
@@ -59,12 +57,6 @@ module _ (ids : List ℕ) (at : ℕ) where
   ids-by-name circle l = rw first refl
   ids-by-name arc l = rw first refl
 
-  id-is : (s : Shape) (l : Label) (k : ℕ) → k < size s → idOf (taken s) (getD (slotsOfShape s l) k noSlot) ≡ getD ids (at + k) 0
-  id-is s l k h =
-      sym (getD-map (idOf (taken s)) (slotsOfShape s l) k noSlot 0 (rw (length-shape s l) h))
-      ∙ ap (λ (z : List ℕ). getD z k 0) (ids-by-name s l)
-      ∙ getD-up-to (size s) (λ k. getD ids (at + k) 0) k 0 h
-
 -- ---- what the lookups hand back
 
 module _ (es : List Entry) (few : length es ≤ layout.mostShapes) (ids : List ℕ) (long : length (slots es) ≤ length ids) where
@@ -82,5 +74,7 @@ module _ (es : List Entry) (few : length es ≤ layout.mostShapes) (ids : List �
     found = taken ids (firstSlot s es i) s;
     of-kind = of-kind ids (firstSlot s es i) s;
     handed-back = handed-back i s (c .declared);
-    id-is = ap (idOf (taken ids (firstSlot s es i) s)) (c .is) ∙ id-is ids (firstSlot s es i) s (nameNo es i) k (c .one-of-it) ∙ e;
+    id-is =
+        let at = firstSlot s es i in
+        ap (idOf (taken ids at s)) (c .is) ∙ slots-by (idOf (taken ids at s)) (λ k. getD ids (at + k) 0) 0 s (nameNo es i) (ids-by-name ids at s (nameNo es i)) k (c .one-of-it) ∙ e;
   }

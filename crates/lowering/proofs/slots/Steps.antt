@@ -1,5 +1,5 @@
--- What the code's tests and answers come to, step by step: a choice by a kind, and a push that is taken or refused. Assumes nothing.
-use mathlib.Core.Path.{_≡_, refl, sym, _∙_, ap, subst}
+-- What the steps of the code come to: a push that is taken or refused, the pushes of a kind, and the stages. Assumes nothing.
+use mathlib.Core.Path.{_≡_, refl, sym, _∙_, ap}
 use mathlib.Core.List.{List}
 use Prim.Native.Nat.{ℕ, _+_, _≤_, _<_}
 use native.Mathlib.Numerals.{add-one}
@@ -19,25 +19,9 @@ use Rattle.layout.specs.Steps.{nextAfter}
 use Rattle.layout.specs.Run.{act, done}
 use Rattle.refusal.proofs.Once.{answered-pair}
 use Rattle.record.specs.Entry.{Label, Entry, noEntry, entryAt, labelNo}
-use Rattle.lowering.specs.Steps.{byKind, shapeFor, shapeOf, layoutAfter, layoutThen, pushedAt, pushedAll, stage, laid, Slotted}
-
--- ---- a choice by a kind
-
-module _ {A : Type 0} (kind m n : ℕ) (x y z : A) where
-  pub is-first : kind ≡ m → byKind kind m n x y z ≡ x
-  is-first e = rw (eq-eqb kind m e) refl
-
-  pub is-second : (kind ≡ m → ⊥) → kind ≡ n → byKind kind m n x y z ≡ y
-  is-second f e = rw (ne-eqb kind m f, eq-eqb kind n e) refl
-
-  pub is-other : (kind ≡ m → ⊥) → (kind ≡ n → ⊥) → byKind kind m n x y z ≡ z
-  is-other f g = rw (ne-eqb kind m f, ne-eqb kind n g) refl
+use Rattle.lowering.specs.Steps.{shapeFor, shapeOf, layoutAfter, layoutThen, pushedAt, pushedAll, stage, laid, Slotted}
 
 -- ---- a push
-
--- a push of a shape is one of any shape that is the same
-pub push-as : {s : State} {r : Pushed} {ids : List ℕ} {values : List Float} (x y : layout.Shape) → x ≡ y → Push x s r ids values → Push y s r ids values
-push-as {s = s} {r = r} {ids = ids} {values = values} x y e p = subst (λ (z : layout.Shape). Push z s r ids values) e p
 
 -- the layout and the next id after a push, with the slices after it, are the state after it
 pub push-state : (shape : layout.Shape) (l : Layout) (next : ℕ) (ids : List ℕ) (values : List Float) (r : Pushed) (ids′ : List ℕ) (values′ : List Float)

@@ -1,7 +1,6 @@
 -- Each slot of a fine drawing starts at its component's guess: its part is guessed, and guessed once. Assumes nothing.
 use mathlib.Core.Path.{_≡_, refl, sym, _∙_}
-use mathlib.Core.Bool.{Bool, true, false, cond}
-use mathlib.Core.List.{List, [], _∷_}
+use mathlib.Core.List.{List, []}
 use Prim.Native.Nat.{ℕ, _<_}
 use native.Mathlib.Omega.{arith}
 use lib.Dec.{eqb}
@@ -10,13 +9,15 @@ use lib.Ieee.{nan}
 use Rattle.refusal.specs.First.{EachBelow, SomeBelow}
 use Rattle.record.specs.Kinds.{pairGuess, Guess}
 use Rattle.record.specs.Entry.{Label, Entry}
+use Rattle.index.specs.Labels.{kindNo}
 use Rattle.drawing.specs.Needs.{Shape, point, circle, arc, Part, parts}
 use Rattle.drawing.specs.Faults.{Guessed}
-use Rattle.lowering.specs.Slots.{Slot, slot, x-axis, y-axis, no-axis, slotsOfPart, slots, guessOf, startOf, valuesOf}
+use Rattle.lowering.specs.Slots.{Slot, slotsOfPart, slots, guessOf, startOf, valuesOf}
 use Rattle.lowering.specs.Demand.{noSlot, slotAt, GuessFor, Starts}
 use Rattle.ground.proofs.Pieces.{Each, each-at, each-both, each-flat, getD-map}
 use Rattle.lowering.proofs.drawing.Fine.{Fine}
 use Rattle.lowering.proofs.drawing.Found.{guess-found}
+use Rattle.lowering.proofs.ids.Tested.{by-test}
 use Rattle.lowering.proofs.slots.Around.{each-slot, each-of-all}
 
 -- ---- each slot's part is guessed
@@ -31,11 +32,9 @@ due circle = ((omega arith, omega arith), ((omega arith, omega arith), tt))
 due arc = ((omega arith, omega arith), ((omega arith, omega arith), ((omega arith, omega arith), tt)))
 
 of-part : (es : List Entry) (l : Label) (p : Part) → Guess (p .guess) → Guessed es l p → Each (HasGuess es) (slotsOfPart l p)
-of-part es l p k (g, h, (e, name)) = go (eqb (p .guess) pairGuess)
-  where
-    go : (b : Bool) → Each (HasGuess es) (cond b (slot l (p .suffix) x-axis ∷ slot l (p .suffix) y-axis ∷ []) (slot l (p .suffix) no-axis ∷ []))
-    go true = ((g, h, (rw e k, name)), ((g, h, (rw e k, name)), tt))
-    go false = ((g, h, (rw e k, name)), tt)
+of-part es l p k (g, h, (e, name)) =
+    let is : Guess (kindNo es g) = rw e k in
+    by-test (Each (HasGuess es)) (eqb (p .guess) pairGuess) _ _ (λ t. ((g, h, (is, name)), ((g, h, (is, name)), tt))) (λ t. ((g, h, (is, name)), tt))
 
 has-guess : (es : List Entry) → Fine es → Each (HasGuess es) (slots es)
 has-guess es w =

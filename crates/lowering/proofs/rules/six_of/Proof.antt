@@ -1,29 +1,26 @@
 -- `lowering::rules::six_of` meets its contract, by the kind of the shape. Assumes nothing.
 use Rattle.lowering.specs.Steps.{sixOf}
 use native.Mathlib.Omega.{arith}
-use mathlib.Core.Path.{sym, _∙_}
-use Rattle.lowering.proofs.slots.Steps.{is-first, is-second, is-other}
+use borrow.Author.Tests.{eq-eqb, ne-eqb}
 use borrow.Author.Needs.{needs}
 use Rattle.lowering.proofs.rules.six_of.Statement.{statement}
 use Rattle.lowering.proofs.rules.six_of.Tie as tie
 
 returns : tie.Need-returns
 unfolding sixOf
-returns c =
-    let a = c .before .before .before .before .args in
-    rw (← c .before .point-ids .ensures) (c .point-six .ensures ∙ sym (is-first (a .kind) 1 2 _ _ _ (omega arith)))
+returns c = rw (eq-eqb (c .before .before .before .before .args .kind) 1 (omega arith), ← c .before .point-ids .ensures) (c .point-six .ensures)
 
 returns-2 : tie.Need-returns-2
 unfolding sixOf
 returns-2 c =
     let a = c .before .before .before .before .args in
-    rw (← c .before .circle-ids .ensures) (c .circle-six .ensures ∙ sym (is-second (a .kind) 1 2 _ _ _ (λ e. omega arith) (omega arith)))
+    rw (ne-eqb (a .kind) 1 (λ e. omega arith), eq-eqb (a .kind) 2 (omega arith), ← c .before .circle-ids .ensures) (c .circle-six .ensures)
 
 returns-3 : tie.Need-returns-3
 unfolding sixOf
 returns-3 c =
     let a = c .before .before .before .before .args in
-    rw (← c .before .arc-slot-ids .ensures) (c .arc-six .ensures ∙ sym (is-other (a .kind) 1 2 _ _ _ (c .before .before .match .rest .0 .1) (c .before .before .match .rest .1)))
+    rw (ne-eqb (a .kind) 1 (c .before .before .match .rest .0 .1), ne-eqb (a .kind) 2 (c .before .before .match .rest .1), ← c .before .arc-slot-ids .ensures) (c .arc-six .ensures)
 
 pub six-of-spec : {M : Type 1} → statement M
 six-of-spec =
