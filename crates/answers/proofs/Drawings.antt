@@ -6,6 +6,7 @@ use native.Mathlib.Omega.{arith}
 use lib.ListN.{length, getD, take, drop, replicate, length-map, length-take, length-replicate}
 use lib.Ieee.{Float, nan, binary64, ofBits}
 use lib.Seq.{take-at}
+use Rattle.ground.specs.Lists.{upTo}
 use Rattle.refusal.specs.First.{Answer, passed, refused}
 use Rattle.layout.specs.declared.Layout.{Layout}
 use Rattle.layout.specs.Push.{onward}
@@ -14,9 +15,9 @@ use Rattle.refusal.specs.declared.Refusal.{Refusal}
 use Rattle.refusal.specs.Refusal.{refusal}
 use Rattle.record.specs.Record.{mostRecords, longestText}
 use Rattle.record.specs.Decode.{noRecord}
-use Rattle.record.specs.Entry.{Entry, noEntry, entryAt, upTo, entryOf}
+use Rattle.record.specs.Entry.{Entry, noEntry, entryAt, entryOf}
 use Rattle.record.specs.Formed.{entries}
-use Rattle.record.proofs.UpTo.{up-to-same, up-to-map}
+use Rattle.ground.proofs.UpTo.{up-to-same, up-to-map}
 use Rattle.reader.specs.Page.{recordsIn, linesOf}
 use Rattle.reader.proofs.Written.{written-fits}
 use Rattle.drawing.specs.Faults.{Fault, numberOf}

@@ -3,7 +3,7 @@ use mathlib.Core.Path.{_≡_, sym, ap, _∙_}
 use mathlib.Core.List.{List, _++_, append-nil, append-assoc}
 use Prim.Native.Nat.{ℕ, zero, suc, _+_}
 use native.Mathlib.Omega.{arith}
-use Rattle.record.specs.Entry.{upTo}
+use Rattle.ground.specs.Lists.{upTo}
 use Rattle.rail.specs.Words.{joined}
 
 -- one line more

@@ -6,12 +6,13 @@ use mathlib.Core.List.{List, _++_, map, map-map}
 use Prim.Native.Nat.{ℕ, _+_, _*_, _≤_, _<_}
 use native.Mathlib.Omega.{arith}
 use lib.ListN.{length, getD, take, length-append}
+use Rattle.ground.specs.Lists.{upTo}
 use Rattle.refusal.specs.declared.Refusal.{Refusal}
 use Rattle.record.specs.Record.{recordBytes, mostRecords, recordRoom}
 use Rattle.record.specs.Decode.{countOf, decodeAt, noRecord}
-use Rattle.record.specs.Entry.{upTo, entryOf}
+use Rattle.record.specs.Entry.{entryOf}
 use Rattle.record.proofs.Back.{count-all}
-use Rattle.record.proofs.UpTo.{up-to-same, up-to-map}
+use Rattle.ground.proofs.UpTo.{up-to-same, up-to-map}
 use Rattle.reader.specs.declared.Reading.{Reading}
 use Rattle.reader.specs.declared.Reading.the-variants.{Good, Refused}
 use Rattle.reader.specs.Page.{problemOf, readingOf, recordsIn, linesOf, Reads}

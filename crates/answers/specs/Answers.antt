@@ -4,10 +4,11 @@ use mathlib.Core.List.{List, _++_, map}
 use Prim.Native.Nat.{ℕ}
 use lib.ListN.{length, getD}
 use lib.Ieee.{nan}
+use Rattle.ground.specs.Lists.{upTo}
 use Rattle.refusal.specs.Refusal.{refusal}
 use Rattle.refusal.specs.First.{Answer, passed, refused}
 use Rattle.record.specs.Record.{recordRoom}
-use Rattle.record.specs.Entry.{Entry, upTo}
+use Rattle.record.specs.Entry.{Entry}
 use Rattle.reader.specs.declared.Reading.{Reading}
 use Rattle.reader.specs.declared.Reading.the-variants.{Good, Refused}
 use Rattle.reader.specs.Page.{readingOf, linesOf}

@@ -5,9 +5,10 @@ use mathlib.Core.List.{List, _++_}
 use Prim.Native.Nat.{ℕ, _/_, _≤_}
 use lib.ListN.{length, getD}
 use lib.Ieee.{Float, nan}
+use Rattle.ground.specs.Lists.{upTo}
 use Rattle.record.specs.Record.{mostRecords, longestText, encodeAll}
 use Rattle.record.specs.Decode.{countOf, decodeAt}
-use Rattle.record.specs.Entry.{upTo, entryOf}
+use Rattle.record.specs.Entry.{entryOf}
 use Rattle.record.specs.Formed.{entries}
 use Rattle.reader.specs.declared.Reading.{Reading}
 use Rattle.reader.specs.Page.{recordsIn, linesOf}

@@ -35,5 +35,5 @@ numberFrom k word n [] = n
 numberFrom k word n (b ∷ s) = numberFrom k (wordAfter word b) (oneDigit (eqb (wordAfter word b) k) n b) s
 
 -- the number that the digits of word k of a line write
-abbrev pub numberOf : ℕ → List ℕ → ℕ
-numberOf k s = numberFrom k 0 0 s
+abbrev pub wordNumber : ℕ → List ℕ → ℕ
+wordNumber k s = numberFrom k 0 0 s

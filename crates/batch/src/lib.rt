@@ -1,7 +1,7 @@
 // The header line of a batch's block: what is asked of the text that follows, and its length. `line` has what other lines are read by.
 ghost use mathlib.Core.Path.{_≡_};
 ghost use Rattle.text.specs.Text.{starts};
-ghost use Rattle.batch.specs.Header.{oneMore, digitsAt, sizeOf, headerOf};
+ghost use Rattle.batch.specs.Header.{oneMore, digitsStart, sizeWritten, headerOf};
 use text::Stand;
 
 pub mod line;
@@ -50,7 +50,7 @@ fn one_more(n: usize, b: u8) -> usize
 
 // Where the digits begin.
 fn digits_at(line: &[u8]) -> usize
-    ensures { λ r. ⌜ r ≡ digitsAt (now (line .entry)) ⌝ }
+    ensures { λ r. ⌜ r ≡ digitsStart (now (line .entry)) ⌝ }
 {
     if begins(line, b"CHECK ") {
         return 6;
@@ -60,7 +60,7 @@ fn digits_at(line: &[u8]) -> usize
 
 // The number that the digits of a line write.
 fn size_of(line: &[u8]) -> usize
-    ensures { λ r. ⌜ r ≡ sizeOf (now (line .entry)) ⌝ }
+    ensures { λ r. ⌜ r ≡ sizeWritten (now (line .entry)) ⌝ }
 {
     let at = digits_at(line);
     if line.len() <= at {

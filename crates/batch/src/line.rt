@@ -1,7 +1,7 @@
 // Lines that a program is asked by: where one ends, and the numbers among its words.
 ghost use mathlib.Core.Path.{_≡_};
 ghost use Prim.Native.Nat.{_<_};
-ghost use Rattle.batch.specs.Line.{Until, wordAfter, oneDigit, numberOf};
+ghost use Rattle.batch.specs.Line.{Until, wordAfter, oneDigit, wordNumber};
 
 // A tenth of 2^64: a number above it has no room for one more digit.
 const TENTH: u64 = 1_844_674_407_370_955_161;
@@ -49,7 +49,7 @@ fn word_after(word: usize, b: u8) -> usize
 
 // The number that the digits of word k of a line write, and 0 where it has none. Words stand behind a blank each, the first is word 0.
 pub fn number(line: &[u8], k: usize) -> u64
-    ensures { λ r. ⌜ r ≡ numberOf k (now (line .entry)) ⌝ }
+    ensures { λ r. ⌜ r ≡ wordNumber k (now (line .entry)) ⌝ }
 {
     let mut word = 0;
     let mut n = 0;

@@ -16,7 +16,7 @@ use Rattle.record.specs.Entry.{part, viewOf, named}
 use Rattle.record.specs.Ask.{labelOf}
 use Rattle.record.proofs.Agree.{says-good}
 use Rattle.layout.specs.Refusals.{impossible}
-use Rattle.bridge.specs.Told.{labelStart}
+use Rattle.bridge.specs.Told.{startTold}
 use Rattle.bridge.specs.Given.{lastStage, layoutBy}
 
 -- ---- labels
@@ -39,12 +39,12 @@ unfolding decodeAt
 one-record b e = rw (e, take-all recordBytes b (omega (arith, e))) refl
 
 told-part : (text b : List ℕ) (q : ℕ) (t : Bool) → (t ≡ true → (length b ≡ recordBytes) × (q < labelPlaces))
-    → part text (labelStart b q (length (cond t (named text (decode b) q) []))) (length (cond t (named text (decode b) q) [])) ≡ cond t (named text (decode b) q) []
+    → part text (startTold b q (length (cond t (named text (decode b) q) []))) (length (cond t (named text (decode b) q) [])) ≡ cond t (named text (decode b) q) []
 told-part text b q false f = refl
 told-part text b q true f = rw (one-record b (f refl .0), lt-leb labelPlaces q (f refl .1)) (part-again text (viewOf (decode b) q .start) (viewOf (decode b) q .len) (named text (decode b) q) refl)
 
 -- the part of the text that is told of a label is the label
-pub label-there : (text b : List ℕ) (q : ℕ) → part text (labelStart b q (length (labelOf text b q))) (length (labelOf text b q)) ≡ labelOf text b q
+pub label-there : (text b : List ℕ) (q : ℕ) → part text (startTold b q (length (labelOf text b q))) (length (labelOf text b q)) ≡ labelOf text b q
 unfolding labelOf
 label-there text b q =
     told-part text b q _ (λ t. let w = says-and (says-good text b) (says-lt q (decode b .count)) .so t in (w .0 .framed .whole, omega (arith, w .0 .framed .few, w .1)))

@@ -7,7 +7,7 @@ use Rattle.layout.specs.declared.Stage.{Stage}
 use Rattle.layout.specs.declared.Stage.the-variants.{Points, Circles, Arcs, Done}
 use Rattle.layout.specs.declared.Layout.{Layout}
 use Rattle.layout.specs.declared.Point.{Point}
-use Rattle.layout.specs.Slots.{Shape, point, circle, arc, mostShapes}
+use Rattle.layout.specs.Slots.{Figure, point, circle, arc, mostShapes}
 
 -- the number of the last stage
 abbrev pub lastStage : ℕ
@@ -26,15 +26,15 @@ unfoldable pub layoutBy : ℕ → ℕ → ℕ → ℕ → Layout
 layoutBy points circles arcs s = record { points = pointsBy points s; circles = circles; arcs = arcs; stage = stageBy s }
 
 -- x and y
-abbrev pub pair : Float → Float → Point
-pair x y = record { x = x; y = y }
+abbrev pub xy : Float → Float → Point
+xy x y = record { x = x; y = y }
 
 -- shapes by their components
-abbrev pub pointBy : Float → Float → Shape
-pointBy x y = point (pair x y)
+abbrev pub pointBy : Float → Float → Figure
+pointBy x y = point (xy x y)
 
-abbrev pub circleBy : Float → Float → Float → Shape
-circleBy x y radius = circle (record { center = pair x y; radius = radius })
+abbrev pub circleBy : Float → Float → Float → Figure
+circleBy x y radius = circle (record { center = xy x y; radius = radius })
 
-abbrev pub arcBy : Float → Float → Float → Float → Float → Float → Shape
-arcBy ax ay bx by cx cy = arc (record { a = pair ax ay; b = pair bx by; center = pair cx cy })
+abbrev pub arcBy : Float → Float → Float → Float → Float → Float → Figure
+arcBy ax ay bx by cx cy = arc (record { a = xy ax ay; b = xy bx by; center = xy cx cy })

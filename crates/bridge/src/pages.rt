@@ -21,7 +21,7 @@ ghost use Rattle.record.specs.Formed.{entries};
 ghost use Rattle.record.specs.Ask.{labelOf, angleOf};
 ghost use Rattle.drawing.specs.Check.{checkedOf};
 ghost use Rattle.lowering.specs.Lower.{Lowers};
-ghost use Rattle.bridge.specs.Told.{Tells, readingTold, checkedTold, loweredTold, askedTold, labelStart, labelTold};
+ghost use Rattle.bridge.specs.Told.{Tells, readingTold, checkedTold, loweredTold, askedTold, startTold, labelTold};
 
 // Reads a page, which may leave text over, and writes its records.
 #[no_mangle]
@@ -45,7 +45,7 @@ pub extern "C" fn hunposeto_read_whole(
 
 // Where label q of a record starts, and 0 where there is no such label or it is empty.
 fn label_start(bytes: &[u8], q: usize, len: usize) -> usize
-    ensures { λ r. ⌜ r ≡ labelStart (now (bytes .entry)) q len ⌝ }
+    ensures { λ r. ⌜ r ≡ startTold (now (bytes .entry)) q len ⌝ }
 {
     if len == 0 {
         return 0;

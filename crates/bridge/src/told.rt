@@ -11,7 +11,7 @@ use record::ask::Asked;
 use refusal::Refusal;
 ghost use mathlib.Core.Path.{_≡_};
 ghost use Rattle.layout.specs.Slots.{stageNumber};
-ghost use Rattle.bridge.specs.Told.{good, refused, layoutParts, readingTold, checkedTold, loweredTold, angleParts, askedTold};
+ghost use Rattle.bridge.specs.Told.{goodTold, refusedTold, layoutParts, readingTold, checkedTold, loweredTold, angleParts, askedTold};
 
 // A code and six numbers.
 pub struct Told {
@@ -21,14 +21,14 @@ pub struct Told {
 
 // A good answer, by its parts.
 pub(crate) fn good(parts: [u64; PARTS]) -> Told
-    ensures { λ r. ⌜ r ≡ good parts ⌝ }
+    ensures { λ r. ⌜ r ≡ goodTold parts ⌝ }
 {
     Told { code: 0, parts }
 }
 
 // A refusal, by its number and its place.
 pub(crate) fn refused(why: Refusal) -> Told
-    ensures { λ r. ⌜ r ≡ refused why ⌝ }
+    ensures { λ r. ⌜ r ≡ refusedTold why ⌝ }
 {
     let place = why.place as u64;
     Told {

@@ -27,16 +27,16 @@ abbrev pub byte : List ℕ → ℕ → ℕ
 byte b k = getD b k 0
 
 -- the number of the n bytes from k on
-abbrev pub numberAt : ℕ → List ℕ → ℕ → ℕ
-numberAt zero b k = 0
-numberAt (suc n) b k = byte b k + 256 * numberAt n b (k + 1)
+abbrev pub leAt : ℕ → List ℕ → ℕ → ℕ
+leAt zero b k = 0
+leAt (suc n) b k = byte b k + 256 * leAt n b (k + 1)
 
 -- the number of the two, four and eight bytes from k on
 abbrev pub u16 : List ℕ → ℕ → ℕ
-u16 = numberAt 2
+u16 = leAt 2
 
 abbrev pub u32 : List ℕ → ℕ → ℕ
-u32 = numberAt 4
+u32 = leAt 4
 
 abbrev pub u64 : List ℕ → ℕ → ℕ
-u64 = numberAt 8
+u64 = leAt 8

@@ -1,7 +1,7 @@
 // Numbers of two, four and eight bytes, the lowest byte first: written to bytes, and read from them.
 ghost use mathlib.Core.Path.{_≡_};
 ghost use mathlib.Core.List.{[], _∷_};
-ghost use Rattle.bytes.specs.Little.{le, numberAt};
+ghost use Rattle.bytes.specs.Little.{le, leAt};
 
 // A number as two bytes; of one that is too large, its lowest two.
 pub fn le16(n: usize) -> [u8; 2]
@@ -50,21 +50,21 @@ pub fn le64(n: u64) -> [u8; 8]
 
 // The number of two bytes.
 pub fn u16_of(a: u8, b: u8) -> u16
-    ensures { λ r. ⌜ r ≡ numberAt 2 (a ∷ b ∷ []) 0 ⌝ }
+    ensures { λ r. ⌜ r ≡ leAt 2 (a ∷ b ∷ []) 0 ⌝ }
 {
     (a as u16) + (b as u16) * 256
 }
 
 // The number of four bytes.
 pub fn u32_of(b: [u8; 4]) -> u32
-    ensures { λ r. ⌜ r ≡ numberAt 4 b 0 ⌝ }
+    ensures { λ r. ⌜ r ≡ leAt 4 b 0 ⌝ }
 {
     (u16_of(b[0], b[1]) as u32) + (u16_of(b[2], b[3]) as u32) * 65_536
 }
 
 // The number of eight bytes.
 pub fn u64_of(b: [u8; 8]) -> u64
-    ensures { λ r. ⌜ r ≡ numberAt 8 b 0 ⌝ }
+    ensures { λ r. ⌜ r ≡ leAt 8 b 0 ⌝ }
 {
     let low = u32_of([b[0], b[1], b[2], b[3]]) as u64;
     let high = u32_of([b[4], b[5], b[6], b[7]]) as u64;

@@ -21,15 +21,15 @@ pub record Case : Type 0 where
 -- ---- what the reader makes of a text
 
 -- the lines that a good reading writes
-abbrev pub written : Reading → List Entry → List Entry
-written (reading.Good instructions guesses end) lines = lines
-written (reading.Refused r) lines = []
+abbrev pub linesWritten : Reading → List Entry → List Entry
+linesWritten (reading.Good instructions guesses end) lines = lines
+linesWritten (reading.Refused r) lines = []
 
 -- the whole reading of a text, with room for ten records
 abbrev pub caseOf : List ℕ → Case
 caseOf text =
     let told = readingOf true text 280 in
-    record { text = text; told = told; lines = written told (linesOf text) }
+    record { text = text; told = told; lines = linesWritten told (linesOf text) }
 
 -- ---- how the table is written
 
@@ -45,12 +45,12 @@ abbrev pub line : ℕ → ℕ → List String → ℕ → Entry
 line kind third labels bits = record { kind = kind; third = third; labels = map bytes labels; x = bits; y = 0 }
 
 -- the guess: p, with the bits of 1 and of 2
-abbrev pub guess : Entry
-guess = record { kind = pairGuess; third = 0; labels = bytes "p" ∷ []; x = 0x3ff0_0000_0000_0000; y = 0x4000_0000_0000_0000 }
+abbrev pub theGuess : Entry
+theGuess = record { kind = pairGuess; third = 0; labels = bytes "p" ∷ []; x = 0x3ff0_0000_0000_0000; y = 0x4000_0000_0000_0000 }
 
 -- a page that is read up to its end: these lines, and the guess
-abbrev pub reads : String → ℕ → List Entry → Case
-reads first end lines = record { text = page first; told = reading.Good (length lines) 1 end; lines = lines ++ (guess ∷ []) }
+abbrev pub readsTo : String → ℕ → List Entry → Case
+readsTo first end lines = record { text = page first; told = reading.Good (length lines) 1 end; lines = lines ++ (theGuess ∷ []) }
 
 -- a text that is refused with a number at a place
 abbrev pub refuses : List ℕ → ℕ → ℕ → Case
@@ -67,24 +67,24 @@ cases =
     -- (c) the empty text
     ∷ refuses [] 3 0
     -- (d) two records labelled `p.x`
-    ∷ reads "p.x = (1, 2)" 55 (line 4 1 ("p.x" ∷ []) 0x3ff0_0000_0000_0000 ∷ line 4 2 ("p.x" ∷ []) 0x4000_0000_0000_0000 ∷ [])
+    ∷ readsTo "p.x = (1, 2)" 55 (line 4 1 ("p.x" ∷ []) 0x3ff0_0000_0000_0000 ∷ line 4 2 ("p.x" ∷ []) 0x4000_0000_0000_0000 ∷ [])
     -- (e) `circle` is a label here
-    ∷ reads "circle.x = 0" 55 (line 4 1 ("circle" ∷ []) 0 ∷ [])
+    ∷ readsTo "circle.x = 0" 55 (line 4 1 ("circle" ∷ []) 0 ∷ [])
     -- (f) fifteen digits, and one more
-    ∷ reads "p.x = 999999999999999" 64 (line 4 1 ("p" ∷ []) 0x430c_6bf5_2633_fff8 ∷ [])
+    ∷ readsTo "p.x = 999999999999999" 64 (line 4 1 ("p" ∷ []) 0x430c_6bf5_2633_fff8 ∷ [])
     ∷ refuses (page "p.x = 9999999999999999") 8 20
     -- (g) 10^22, and 10^23
-    ∷ reads "p.x = 1e22" 53 (line 4 1 ("p" ∷ []) 0x4480_f0cf_064d_d592 ∷ [])
+    ∷ readsTo "p.x = 1e22" 53 (line 4 1 ("p" ∷ []) 0x4480_f0cf_064d_d592 ∷ [])
     ∷ refuses (page "p.x = 1e23") 8 20
     -- (h) k is -23
     ∷ refuses (page "p.x = 0.5e-22") 8 20
     -- (i) minus zero
-    ∷ reads "p.x = -0" 51 (line 4 1 ("p" ∷ []) 0x8000_0000_0000_0000 ∷ [])
+    ∷ readsTo "p.x = -0" 51 (line 4 1 ("p" ∷ []) 0x8000_0000_0000_0000 ∷ [])
     -- (j) the root of two
-    ∷ reads "radius(c, sqrt(2))" 61 (line 15 0 ("c" ∷ []) 0x3ff6_a09e_667f_3bcd ∷ [])
+    ∷ readsTo "radius(c, sqrt(2))" 61 (line 15 0 ("c" ∷ []) 0x3ff6_a09e_667f_3bcd ∷ [])
     -- (k) the root of minus four is a NaN
-    ∷ reads "radius(c, sqrt(-4))" 62 (line 15 0 ("c" ∷ []) 0x7ff8_0000_0000_0000 ∷ [])
+    ∷ readsTo "radius(c, sqrt(-4))" 62 (line 15 0 ("c" ∷ []) 0x7ff8_0000_0000_0000 ∷ [])
     -- (l) a blank before the bracket
-    ∷ reads "horizontal(a, b )" 60 (line 6 0 ("a" ∷ "b" ∷ []) 0 ∷ [])
+    ∷ readsTo "horizontal(a, b )" 60 (line 6 0 ("a" ∷ "b" ∷ []) 0 ∷ [])
     ∷ refuses (page "line(a, b )") 4 14
     ∷ []

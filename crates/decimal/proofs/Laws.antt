@@ -15,7 +15,7 @@ use lib.Ieee.Scale.{round-same}
 use Rattle.decimal.specs.declared.Scale.{Scale}
 use Rattle.decimal.specs.declared.Scale.the-variants.{Times, Over}
 use Rattle.decimal.specs.declared.Carried.the-variants.{Bits, Outside}
-use Rattle.decimal.specs.Decimal.{limit, power, powerOf, fits, whole, signed, valueOf, operated, Made, OneOperation, carried}
+use Rattle.decimal.specs.Decimal.{limit, power, powerOf, fits, wholeNumber, signed, valueOf, operated, Made, OneOperation, carried}
 use Rattle.decimal.proofs.Operations.{mul-whole, div-whole, neg-round, round-number}
 use Rattle.decimal.proofs.Powers.{ten-pos, power-exact}
 
@@ -28,7 +28,7 @@ module _ (m : ℕ) (k : Scale) where
   fits-power e = leb→le (powerOf k) power (and-r (ltb m limit) (leb (powerOf k) power) (subst T (sym e) tt))
 
 -- ---- the one operation
-pub whole-exact : (m : ℕ) → m < limit → HasValue (whole m) false m 1
+pub whole-exact : (m : ℕ) → m < limit → HasValue (wholeNumber m) false m 1
 unfolding ofInt
 whole-exact m h = round-whole binary64 false m (omega arith)
 
@@ -36,12 +36,12 @@ signed-round : (s : Bool) (a b : ℕ) → signed s (round binary64 false a b) �
 signed-round false a b = refl
 signed-round true a b = neg-round binary64 false a b
 
-one-value : (m : ℕ) (k : Scale) (s : Bool) → HasValue (whole m) false m 1 → HasValue (whole (10 ^ powerOf k)) false (10 ^ powerOf k) 1
+one-value : (m : ℕ) (k : Scale) (s : Bool) → HasValue (wholeNumber m) false m 1 → HasValue (wholeNumber (10 ^ powerOf k)) false (10 ^ powerOf k) 1
     → operated m k s ≡ valueOf m k s
 unfolding operated valueOf
-one-value m (Times a) s x y = ap (signed s) (mul-whole binary64 (whole m) (whole (10 ^ a)) m (10 ^ a) x y) ∙ signed-round s (m * 10 ^ a) 1
+one-value m (Times a) s x y = ap (signed s) (mul-whole binary64 (wholeNumber m) (wholeNumber (10 ^ a)) m (10 ^ a) x y) ∙ signed-round s (m * 10 ^ a) 1
 one-value m (Over a) s x y =
-    ap (signed s) (div-whole binary64 (whole m) (whole (10 ^ a)) m (10 ^ a) x y (ten-pos a)) ∙ signed-round s m (10 ^ a)
+    ap (signed s) (div-whole binary64 (wholeNumber m) (wholeNumber (10 ^ a)) m (10 ^ a) x y (ten-pos a)) ∙ signed-round s m (10 ^ a)
 
 pub one-operation : (m : ℕ) (k : Scale) (s : Bool) → fits m k ≡ true → OneOperation m k s
 one-operation m k s e =

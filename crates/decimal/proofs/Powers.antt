@@ -8,7 +8,7 @@ use lib.Dec.{lit<}
 use lib.Pow.{pow-add, pow-mono, shl-lt}
 use lib.Ieee.{binary64, ofInt}
 use lib.Ieee.Exact.{HasValue, round-exact}
-use Rattle.decimal.specs.Decimal.{power, whole}
+use Rattle.decimal.specs.Decimal.{power, wholeNumber}
 
 -- ---- exact
 pub ten-pos : (a : ℕ) → 0 < 10 ^ a
@@ -25,7 +25,7 @@ few a h = lt-of-le-of-lt (pow-le-pow-right (lit< tt) h) (lit< {m = 5 ^ power} tt
 fine : (a : ℕ) → a ≤ power → 53 + (a + 1074) ≤ 1074 + 1024
 fine a h = omega arith
 
-pub power-exact : (a : ℕ) → a ≤ power → HasValue (whole (10 ^ a)) false (10 ^ a) 1
+pub power-exact : (a : ℕ) → a ≤ power → HasValue (wholeNumber (10 ^ a)) false (10 ^ a) 1
 unfolding ofInt
 power-exact a h =
     round-exact binary64 false (10 ^ a) 1 (5 ^ a) (a + 1074) (lit< tt) (few a h)

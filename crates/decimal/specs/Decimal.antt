@@ -42,8 +42,8 @@ valueOf m (Times a) s = round binary64 s (m * 10 ^ a) 1
 valueOf m (Over a) s = round binary64 s m (10 ^ a)
 
 -- a whole number as an operand
-abbrev pub whole : ℕ → Float
-whole n = ofInt binary64 (pos n)
+abbrev pub wholeNumber : ℕ → Float
+wholeNumber n = ofInt binary64 (pos n)
 
 -- x, or -x where the sign is minus
 abbrev pub signed : Bool → Float → Float
@@ -52,8 +52,8 @@ signed true x = neg x
 
 -- one f64 operation on the operands m and 10^a, then the sign
 unfoldable pub operated : ℕ → Scale → Bool → Float
-operated m (Times a) s = signed s (mul binary64 (whole m) (whole (10 ^ a)))
-operated m (Over a) s = signed s (div binary64 (whole m) (whole (10 ^ a)))
+operated m (Times a) s = signed s (mul binary64 (wholeNumber m) (wholeNumber (10 ^ a)))
+operated m (Over a) s = signed s (div binary64 (wholeNumber m) (wholeNumber (10 ^ a)))
 
 -- r is the number's value, and it is made by the one operation
 pub record Made (m : ℕ) (k : Scale) (s : Bool) (r : Float) : Type 0 where
@@ -62,8 +62,8 @@ pub record Made (m : ℕ) (k : Scale) (s : Bool) (r : Float) : Type 0 where
 
 -- the operands are exact, and the operation gives the value
 pub record OneOperation (m : ℕ) (k : Scale) (s : Bool) : Type 0 where
-  pub digits-exact : HasValue (whole m) false m 1
-  pub power-exact : HasValue (whole (10 ^ powerOf k)) false (10 ^ powerOf k) 1
+  pub digits-exact : HasValue (wholeNumber m) false m 1
+  pub power-exact : HasValue (wholeNumber (10 ^ powerOf k)) false (10 ^ powerOf k) 1
   pub same : operated m k s ≡ valueOf m k s
 
 -- ---- what comes back

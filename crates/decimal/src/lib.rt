@@ -2,7 +2,7 @@
 ghost use mathlib.Core.Path.{_≡_};
 ghost use mathlib.Core.Bool.{true};
 ghost use Prim.Native.Nat.{_^_, _≤_};
-ghost use Rattle.decimal.specs.Decimal.{power, powerOf, fits, whole, Made, carried};
+ghost use Rattle.decimal.specs.Decimal.{power, powerOf, fits, wholeNumber, Made, carried};
 
 // 10 to the power k: Times(a) is 10^a, Over(a) is 10^-a.
 pub enum Scale {
@@ -25,7 +25,7 @@ pub const POWER: u64 = 22;
 // 10^a.
 fn ten_to(a: u64) -> f64
     requires { ⌜ a ≤ power ⌝ }
-    ensures { λ r. ⌜ r ≡ whole (10 ^ a) ⌝ }
+    ensures { λ r. ⌜ r ≡ wholeNumber (10 ^ a) ⌝ }
 {
     match a {
         0 => 1e0,

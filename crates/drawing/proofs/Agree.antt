@@ -17,7 +17,7 @@ use Rattle.drawing.specs.Needs.{Shape, point, circle, arc, declaring, Pa
 use Rattle.drawing.specs.Faults as faults
 use faults.{Meets, Guessed, AnyUnguessed, WithoutGuess, Fault, malformed, declared-twice, wrong-label, no-such-part, guessed-twice, without-guess, order, Holds}
 use Rattle.drawing.specs.Check as check
-use check.{twice, namedAt, named, meets, guessAt, guessed, anyUnguessed, wrongPlace, wrongLabelTest, noSuchPartTest, lacks, withoutGuessTest, test, checkOf}
+use check.{twice, namedAt, someNamed, meets, guessAt, guessed, anyUnguessed, wrongPlace, wrongLabelTest, noSuchPartTest, lacks, withoutGuessTest, test, checkOf}
 
 -- each fault stands in the order
 pub listed : (f : Fault) → List·Memᴰ f order
@@ -32,7 +32,7 @@ listed without-guess = List·Memᴰ·tail (List·Memᴰ·tail (List·Memᴰ·tai
 
 module _ (es : List Entry) where
   pub says-meets : (n : Need) (l : Label) → Says (meets es n l) (Meets es n l)
-  unfolding named namedAt
+  unfolding someNamed namedAt
   says-meets [] l = says-never
   says-meets (c ∷ cs) l = says-or (says-any _ _ (λ j. says-and (says-eq _ _) (says-iff sym sym (says-same _ _))) (length es)) (says-meets cs l)
 

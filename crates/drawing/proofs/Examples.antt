@@ -14,7 +14,7 @@ use Rattle.drawing.specs.declared.Checked.{Checked}
 use Rattle.refusal.specs.Refusal.{refusal}
 use Rattle.drawing.specs.declared.Checked.the-variants.{Passed, Refused}
 use Rattle.drawing.specs.Check as check
-use check.{twice, namedAt, named, guessAt, guessed, wrongPlace, wrongLabelTest, noSuchPartTest, withoutGuessTest, checkOf, countBelow, checkedOf}
+use check.{twice, namedAt, someNamed, guessAt, guessed, wrongPlace, wrongLabelTest, noSuchPartTest, withoutGuessTest, checkOf, countBelow, checkedOf}
 
 -- ---- entries
 
@@ -90,5 +90,5 @@ cases =
     ∷ []
 
 pub told : map (λ (c : Case). checkedOf (c .0)) cases ≡ map (λ (c : Case). c .1) cases
-unfolding checkedOf checkOf first lowest countBelow malformedTest soundTest spelledTest labelOn suffixedOn byteOn labelAt runTo wordAt labelled twice namedAt named guessAt guessed wrongPlace wrongLabelTest noSuchPartTest withoutGuessTest
+unfolding checkedOf checkOf first lowest countBelow malformedTest soundTest spelledTest labelOn suffixedOn byteOn labelAt runTo wordAt labelled twice namedAt someNamed guessAt guessed wrongPlace wrongLabelTest noSuchPartTest withoutGuessTest
 told = refl

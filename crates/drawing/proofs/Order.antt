@@ -29,7 +29,7 @@ use Rattle.drawing.specs.Faults as faults
 use faults.{Fault, malformed, behind30, numberOf}
 use Rattle.drawing.specs.Steps.{testNo}
 use Rattle.drawing.specs.Check as check
-use check.{twice, wrongLabelTest, noSuchPartTest, withoutGuessTest, test, checkOf, countBelow, countOf as count-of, answer, checkedOf}
+use check.{twice, wrongLabelTest, noSuchPartTest, withoutGuessTest, test, checkOf, countBelow, countWithin, answer, checkedOf}
 use Rattle.drawing.proofs.Laws.{count-kinds}
 
 -- ---- the faults by their numbers
@@ -122,7 +122,7 @@ module _ (text bs : List ℕ) (w : WellFormed text bs) where
   unfolding checkedOf
   told-behind k i h e = rw (entries-drawn text bs w, e, number-at k h) refl
 
-  count-is : (low high n : ℕ) → n ≡ countBelow (λ i. decodeAt bs i .kind) low high (countOf bs) → n ≡ count-of (drawn text bs) low high
+  count-is : (low high n : ℕ) → n ≡ countBelow (λ i. decodeAt bs i .kind) low high (countOf bs) → n ≡ countWithin (drawn text bs) low high
   count-is low high n e =
       let es = drawn text bs in
       e

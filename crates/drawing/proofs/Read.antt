@@ -22,7 +22,7 @@ use Rattle.index.proofs.Drawn.{drawn-length, drawn-kind, drawn-label}
 use Rattle.index.proofs.Found.{found-below}
 use Rattle.drawing.specs.Needs.{Need, point, circle, arc, parts, needs, needOf, codeAt}
 use Rattle.drawing.specs.Check as check
-use check.{twice, namedAt, named, meets, guessAt, guessed, anyUnguessed, wrongPlace, withoutGuessTest}
+use check.{twice, namedAt, someNamed, meets, guessAt, guessed, anyUnguessed, wrongPlace, withoutGuessTest}
 use Rattle.drawing.proofs.Laws.{suffix-cancel, any-same}
 
 -- ---- a record by its kind
@@ -77,23 +77,23 @@ found-any text bs lo hi kind cs l r c a b e =
 
 module _ (es : List Entry) (kind : ℕ) (suffix l : Label) where
   -- no label with the suffix behind it is l
-  pub named-none : ((x : Label) → x ++ suffix ≡ l → ⊥) → false ≡ named es kind suffix l
-  unfolding named namedAt
+  pub named-none : ((x : Label) → x ++ suffix ≡ l → ⊥) → false ≡ someNamed es kind suffix l
+  unfolding someNamed namedAt
   named-none f =
       sym (refuted
       (says-any _ (λ j. (kindNo es j ≡ kind) × (l ≡ nameNo es j ++ suffix)) (λ j. says-and (says-eq _ _) (says-same _ _)) (length es))
       (λ w. f (nameNo es (w .0)) (sym (w .2 .1))))
 
   -- the label before the suffix is looked for
-  named-is : (front : Label) → front ++ suffix ≡ l → anyBelow (length es) (labelled es kind kind front) ≡ named es kind suffix l
-  unfolding named namedAt labelled
+  named-is : (front : Label) → front ++ suffix ≡ l → anyBelow (length es) (labelled es kind kind front) ≡ someNamed es kind suffix l
+  unfolding someNamed namedAt labelled
   named-is front e =
       any-same _ _ (length es) (λ j. rw within-one (ap (_&&_ (eqb (kindNo es j) kind)) (says-once (says-same (nameNo es j) front) (says-iff
       (λ w. suffix-cancel (nameNo es j) front suffix (sym w ∙ sym e)) (λ w. sym e ∙ ap (λ (x : Label). x ++ suffix) (sym w)) (says-same l (nameNo es j ++ suffix))))))
 
 module _ (text bs : List ℕ) (cs : List ℕ) (kind : ℕ) (suffix l : Label) (r : ℕ) where
   pub named-found : (front : Label) → front ++ suffix ≡ l → Chained (drawn text bs) newPoint newArc cs → newPoint ≤ kind → kind ≤ newArc
-      → r ≡ walkOf (drawn text bs) kind kind cs front → ltb r (countOf bs) ≡ named (drawn text bs) kind suffix l
+      → r ≡ walkOf (drawn text bs) kind kind cs front → ltb r (countOf bs) ≡ someNamed (drawn text bs) kind suffix l
   named-found front e c a b er = found-any text bs newPoint newArc kind cs front r c a b er ∙ named-is (drawn text bs) kind suffix l front e
 
   pub guessed-found : Chained (drawn text bs) pairGuess numberGuess cs → pairGuess ≤ kind → kind ≤ numberGuess

@@ -13,7 +13,7 @@ use Rattle.record.specs.Formed.{places}
 use Rattle.drawing.specs.declared.Checked.the-variants as checked
 use Rattle.drawing.specs.Faults as faults
 use faults.{Fault, malformed, order, numberOf, Holds}
-use Rattle.drawing.specs.Check.{checkOf, countOf, answer, checkedOf}
+use Rattle.drawing.specs.Check.{checkOf, countWithin, answer, checkedOf}
 use Rattle.ground.proofs.Pieces.{each-has}
 use Rattle.drawing.proofs.Agree.{listed, check-refuses, check-passes}
 
@@ -49,7 +49,7 @@ module _ (es : List Entry) where
       (λ e. t .0 (refused-of (checkOf es) f i e), λ w. ap (answer es) (t .1 w))
 
   -- a drawing passes, with its counts, exactly if no fault holds anywhere
-  pub passed-iff : (checkedOf es ≡ checked.Passed (countOf es newPoint newPoint) (countOf es newCircle newCircle) (countOf es newArc newArc) (countOf es firstRule lastRule)) ↔ ((f : Fault) → Nowhere (Holds es f) (places es))
+  pub passed-iff : (checkedOf es ≡ checked.Passed (countWithin es newPoint newPoint) (countWithin es newCircle newCircle) (countWithin es newArc newArc) (countWithin es firstRule lastRule)) ↔ ((f : Fault) → Nowhere (Holds es f) (places es))
   unfolding checkedOf
   passed-iff =
       let t = check-passes es in

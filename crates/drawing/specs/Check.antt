@@ -27,13 +27,13 @@ unfoldable pub namedAt : List Entry → ℕ → Label → Label → ℕ → Bool
 namedAt es kind suffix l j = eqb (kindNo es j) kind && same l (nameNo es j ++ suffix)
 
 -- some entry is so
-unfoldable pub named : List Entry → ℕ → Label → Label → Bool
-named es kind suffix l = anyBelow (length es) (namedAt es kind suffix l)
+unfoldable pub someNamed : List Entry → ℕ → Label → Label → Bool
+someNamed es kind suffix l = anyBelow (length es) (namedAt es kind suffix l)
 
 -- l is one of those that a place needs
 abbrev pub meets : List Entry → Need → Label → Bool
 meets es [] l = false
-meets es (c ∷ cs) l = named es (declaring (c .shape)) (c .suffix) l || meets es cs l
+meets es (c ∷ cs) l = someNamed es (declaring (c .shape)) (c .suffix) l || meets es cs l
 
 -- entry j is of this kind, and its first label is l with the suffix behind it
 unfoldable pub guessAt : List Entry → ℕ → Label → Label → ℕ → Bool
@@ -93,12 +93,12 @@ countBelow kinds low high zero = 0
 countBelow kinds low high (suc n) = countBelow kinds low high n + cond (within low high (kinds n)) 1 0
 
 -- how many entries are of a kind from low to high
-abbrev pub countOf : List Entry → ℕ → ℕ → ℕ
-countOf es low high = countBelow (kindNo es) low high (length es)
+abbrev pub countWithin : List Entry → ℕ → ℕ → ℕ
+countWithin es low high = countBelow (kindNo es) low high (length es)
 
 -- a drawing that passes has so many points, circles, arcs and rows; any other is refused with docs/FORMAT.md's number, at a place
 abbrev pub answer : List Entry → Answer Fault → Checked
-answer es passed = checked.Passed (countOf es newPoint newPoint) (countOf es newCircle newCircle) (countOf es newArc newArc) (countOf es firstRule lastRule)
+answer es passed = checked.Passed (countWithin es newPoint newPoint) (countWithin es newCircle newCircle) (countWithin es newArc newArc) (countWithin es firstRule lastRule)
 answer es (refused f i) = checked.Refused (refusal (numberOf f) i)
 
 -- what is told of a drawing

@@ -7,7 +7,7 @@ ghost use Rattle.record.specs.Decode.{countOf as records-in};
 ghost use Rattle.index.specs.Labels.{drawn};
 ghost use Rattle.index.specs.Chains.{Chained};
 ghost use Rattle.drawing.specs.Needs.{needOf};
-ghost use Rattle.drawing.specs.Check.{twice as is-twice, named as is-named, meets as is-met, guessed as is-guessed};
+ghost use Rattle.drawing.specs.Check.{twice as is-twice, someNamed as is-named, meets as is-met, guessed as is-guessed};
 use index::find;
 use index::find_two;
 use index::labels::kind_at;

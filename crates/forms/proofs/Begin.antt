@@ -19,13 +19,13 @@ use Rattle.refusal.specs.declared.Refusal.{Refusal}
 use Rattle.text.specs.Text.{orStand, starts, isSpace, runTo, wordAt, wordOn, wsOn, byteOn, labelOn, suffixedOn}
 use Rattle.text.specs.declared.Stand.{Stand}
 use Rattle.text.specs.declared.Stand.the-variants.{At, Nothing, Refused}
-use Rattle.text.specs.declared.Label.{Label}
+use Rattle.text.specs.declared.ReadLabel.{ReadLabel}
 use Rattle.text.proofs.Stand.{the-type}
 use Rattle.text.proofs.Laws.{runTo-stop, runTo-end}
 use Rattle.number.specs.Number.{numberOn}
 use Rattle.record.specs.Kinds.{newPoint, newCircle, newArc, fixComponent, fixCenter, wordOf}
 use Rattle.record.specs.declared.Record.{Record}
-use Rattle.forms.specs.Forms.{Lines, noLine, lineOf, orLine, aroundOn, pairOn, declareOn, fixedOn, assignOn, keywordOn, keywordKinds, firstOf, labelFormsOn, instructionOn, guessedOn, guessOn, lineOn}
+use Rattle.forms.specs.Forms.{Lines, noLine, lineThen, orLine, aroundOn, pairOn, declareOn, fixedOn, assignOn, keywordOn, keywordKinds, firstOf, labelFormsOn, instructionOn, guessedOn, guessOn, lineOn}
 use Rattle.forms.specs.Steps.{assignedOn, behindOn, declarationOn, opens, noneBegins}
 use Rattle.forms.proofs.Kept.{instruction-of, fixed-kept, assign-kept, line-kept}
 use Rattle.forms.proofs.Stands.{kept-nothing, unread}
@@ -41,7 +41,7 @@ or-assoc a b c = go (a .then) refl
     go Nothing e = refl
     go (Refused why) e = rw e
 
-line-or : (rs : List Record) (t : Stand) → orLine (lineOf rs t) (noLine Nothing) ≡ lineOf rs t
+line-or : (rs : List Record) (t : Stand) → orLine (lineThen rs t) (noLine Nothing) ≡ lineThen rs t
 line-or rs (At n) = refl
 line-or rs Nothing = refl
 line-or rs (Refused why) = refl
@@ -97,11 +97,11 @@ skip s at (suc i) (k ∷ ks) e =
 
 -- ---- what stands behind a label
 
-not-fixed : (s : List ℕ) (l : Label) (k : ℕ) (between : List ℕ) → wordOn s (l .then) between ≡ Nothing → fixedOn s l k between ≡ noLine Nothing
+not-fixed : (s : List ℕ) (l : ReadLabel) (k : ℕ) (between : List ℕ) → wordOn s (l .then) between ≡ Nothing → fixedOn s l k between ≡ noLine Nothing
 unfolding fixedOn
 not-fixed s l k between e = unread _ _ (fixed-kept (kept-nothing s) l k between e)
 
-not-assigned : (s : List ℕ) (l : Label) → aroundOn s (suffixedOn s l .then) 61 ≡ Nothing → assignOn s l ≡ noLine Nothing
+not-assigned : (s : List ℕ) (l : ReadLabel) → aroundOn s (suffixedOn s l .then) 61 ≡ Nothing → assignOn s l ≡ noLine Nothing
 unfolding assignOn
 not-assigned s l e = unread _ _ (assign-kept (kept-nothing s) l e)
 
@@ -115,11 +115,11 @@ around-by : (s : List ℕ) (at b : ℕ) → runTo isSpace s at ≡ at → byteOn
 unfolding aroundOn wsOn
 around-by s at b e f = rw (e, f)
 
-unsuffixed : (s : List ℕ) (l : Label) → byteOn s (l .then) 46 ≡ Nothing → suffixedOn s l ≡ l
+unsuffixed : (s : List ℕ) (l : ReadLabel) → byteOn s (l .then) 46 ≡ Nothing → suffixedOn s l ≡ l
 unfolding suffixedOn labelOn
 unsuffixed s l e = rw e
 
-module _ (s : List ℕ) (at : ℕ) (l : Label) (next b : ℕ) (e : l .then ≡ At next) (d : getD s next 0 ≡ b) (o : eqb b 46 ≡ false) where
+module _ (s : List ℕ) (at : ℕ) (l : ReadLabel) (next b : ℕ) (e : l .then ≡ At next) (d : getD s next 0 ≡ b) (o : eqb b 46 ≡ false) where
   fixed-not : (k : ℕ) (between : List ℕ) → opens b between ≡ false → fixedOn s l k between ≡ noLine Nothing
   fixed-not k between f = not-fixed s l k between (rw e (word-not between s next (rw d f)))
 

@@ -9,10 +9,10 @@ use Rattle.ground.proofs.Lists.{and-first, and-second, all}
 use Rattle.text.specs.Text.{wsOn, wordOn, byteOn, labelOn, suffixedOn, dottedOn}
 use Rattle.text.specs.declared.Stand.{Stand}
 use Rattle.text.specs.declared.Stand.the-variants.{Nothing}
-use Rattle.text.specs.declared.Label.{Label}
+use Rattle.text.specs.declared.ReadLabel.{ReadLabel}
 use Rattle.text.proofs.Laws.{from-of, either-of, cond-of}
 use Rattle.number.specs.Number.{numberOn, exprOn}
-use Rattle.record.specs.Kinds.{newPoint, newCircle, newArc, fixComponent, fixCenter, kindAt, wordOf, none, number, expression}
+use Rattle.record.specs.Kinds.{newPoint, newCircle, newArc, fixComponent, fixCenter, kindAt, wordOf, numberless, number, expression}
 use Rattle.record.specs.Decode.{isGuess}
 use Rattle.record.specs.Sound.{fieldsTest}
 use Rattle.forms.specs.declared.pieces.Amount.{Amount}
@@ -34,13 +34,13 @@ abbrev pub Declares : ℕ → Type 0
 Declares k = (isGuess k ≡ false) × (fieldsTest (kindAt k) 0 1 0 0 ≡ true) × (kindAt k .dotted ≡ false)
 
 -- what holds of each form, and of no line, holds of an instruction; of the keyword forms it may hold by a test of their kinds
-module _ (s : List ℕ) (Q : Lines → Type 0) (none : Q (noLine Nothing)) where
+module _ (s : List ℕ) (Q : Lines → Type 0) (numberless : Q (noLine Nothing)) where
   or-of : {x y : Lines} → Q x → Q y → Q (orLine x y)
   or-of {x} {y} f g = either-of Q (x .then) x y f g
 
   first-of : (t : Stand) (test : ℕ → Bool) → ((k : ℕ) → test k ≡ true → Q (keywordOn s t k)) → (ks : List ℕ) → all test ks ≡ true → Q (firstOf s t ks)
   unfolding firstOf
-  first-of t test f [] e = none
+  first-of t test f [] e = numberless
   first-of t test f (k ∷ ks) e = or-of (f k (and-first (test k) (all test ks) e)) (first-of t test f ks (and-second (test k) (all test ks) e))
 
   pub instruction-of : (t : Stand) → let at = wsOn s t in let l = labelOn s at in
@@ -66,10 +66,10 @@ module _ {s : List ℕ} {P : Stand → Type 0} (k : Kept s P) where
   unfolding pairOn
   pair-kept h = k .byte 41 (k .number (k .ws (k .byte 44 (k .number (k .ws (k .byte 40 h))))))
 
-  pub suffixed-kept : (l : Label) → P (l .then) → P (suffixedOn s l .then)
+  pub suffixed-kept : (l : ReadLabel) → P (l .then) → P (suffixedOn s l .then)
   unfolding suffixedOn
   suffixed-kept l h =
-      from-of (λ (m : Label). P (m .then)) (labelOn s (byteOn s (l .then) 46) .then) l _ h (λ n e. rw e at (k .label (k .byte 46 h)))
+      from-of (λ (m : ReadLabel). P (m .then)) (labelOn s (byteOn s (l .then) 46) .then) l _ h (λ n e. rw e at (k .label (k .byte 46 h)))
 
   pub more-kept : {t : Stand} (on : Bool) → P t → P (moreOn s t on .then)
   unfolding moreOn
@@ -86,7 +86,7 @@ module _ {s : List ℕ} {P : Stand → Type 0} (k : Kept s P) where
   amount-kept {t} sort h =
       let f = around-kept 44 h in
       let Q : Amount → Type 0 = λ n. P (n .then) in
-      cond-of Q (eqb sort none) _ _ (λ _. h) (λ _. cond-of Q (eqb sort number) _ _ (λ _. k .number f)
+      cond-of Q (eqb sort numberless) _ _ (λ _. h) (λ _. cond-of Q (eqb sort number) _ _ (λ _. k .number f)
       (λ _. cond-of Q (eqb sort expression) _ _ (λ _. k .expr f) (λ _. side-kept (bytes "deg") (bytes "rad") (k .number f))))
 
   -- ---- forms, from behind their first word or label on
@@ -95,11 +95,11 @@ module _ {s : List ℕ} {P : Stand → Type 0} (k : Kept s P) where
   unfolding declareOn
   declare-kept t kind h = k .label (k .ws h)
 
-  pub fixed-kept : (l : Label) (kind : ℕ) (between : List ℕ) → P (wordOn s (l .then) between) → P (fixedOn s l kind between .then)
+  pub fixed-kept : (l : ReadLabel) (kind : ℕ) (between : List ℕ) → P (wordOn s (l .then) between) → P (fixedOn s l kind between .then)
   unfolding fixedOn
   fixed-kept l kind between h = k .number (around-kept 61 (side-kept (bytes "x") (bytes "y") h))
 
-  pub assign-kept : (l : Label) → P (aroundOn s (suffixedOn s l .then) 61) → P (assignOn s l .then)
+  pub assign-kept : (l : ReadLabel) → P (aroundOn s (suffixedOn s l .then) 61) → P (assignOn s l .then)
   unfolding assignOn
   assign-kept l h = pair-kept h
 
@@ -120,7 +120,7 @@ module _ {s : List ℕ} {P : Stand → Type 0} (k : Kept s P) where
       (fixed-kept _ fixComponent (bytes ".") (k .word (bytes ".") f)) (fixed-kept _ fixCenter (bytes ".center.") (k .word (bytes ".center.") f))
       (assign-kept _ (around-kept 61 (suffixed-kept _ f))) (λ kind. true) refl (λ kind e. keyword-kept _ kind (k .word (wordOf kind) at))
 
-  guessed-kept : {t : Stand} (l : Label) → P t → P (guessedOn s l t .then)
+  guessed-kept : {t : Stand} (l : ReadLabel) → P t → P (guessedOn s l t .then)
   unfolding guessedOn
   guessed-kept {t} l h = either-of (λ (m : Lines). P (m .then)) (pairOn s t .then) _ _ (pair-kept h) (k .number h)
 

@@ -16,23 +16,23 @@ use Rattle.refusal.proofs.Says.{says-so, says-and, says-le, says-lt}
 use Rattle.text.specs.Text.{wsOn, wordOn, byteOn, labelOn, suffixedOn}
 use Rattle.text.specs.declared.Stand.{Stand}
 use Rattle.text.specs.declared.Stand.the-variants.{At, Nothing, Refused}
-use Rattle.text.specs.declared.Label.{Label}
+use Rattle.text.specs.declared.ReadLabel.{ReadLabel}
 use Rattle.text.proofs.Laws.{Reached, here, either-of, cond-of}
 use Rattle.number.specs.Number.{numberOn}
 use Rattle.number.proofs.Within.{number-read, expr-read}
-use Rattle.record.specs.Kinds.{fixComponent, fixCenter, pairGuess, numberGuess, kindAt, wordOf, none, number, expression, either}
+use Rattle.record.specs.Kinds.{fixComponent, fixCenter, pairGuess, numberGuess, kindAt, wordOf, numberless, number, expression, either}
 use Rattle.record.specs.Record.{labelPlaces, firstGuess}
 use Rattle.record.specs.Decode.{isGuess}
 use Rattle.record.specs.Entry.{noView, viewOf, part, entryOf}
 use Rattle.record.specs.Sound.{Spelled, Placed, Sound, fieldsTest}
 use Rattle.record.specs.declared.View.{View}
 use Rattle.record.specs.declared.Record.{Record}
-use Rattle.record.proofs.UpTo.{each-place}
+use Rattle.record.proofs.Places.{each-place}
 use Rattle.record.proofs.Found.{Found, dotted, label-found, suffixed-found}
 use Rattle.record.proofs.Agree.{sound-of}
 use Rattle.forms.specs.declared.pieces.Amount.{Amount}
 use Rattle.forms.specs.declared.pieces.Side.{Side}
-use Rattle.forms.specs.Forms.{Lines, lineOf, viewFrom, labelled, aroundOn, eitherOn, componentOn, pairOn, declareOn, fixedOn, assignOn, moreOn, angleOn, amountOn, gapOn, keywordOn, keywordKinds, instructionOn, guessedOn, guessOn, lineOn}
+use Rattle.forms.specs.Forms.{Lines, lineThen, viewFrom, oneLabelled, aroundOn, eitherOn, componentOn, pairOn, declareOn, fixedOn, assignOn, moreOn, angleOn, amountOn, gapOn, keywordOn, keywordKinds, instructionOn, guessedOn, guessOn, lineOn}
 use Rattle.forms.proofs.Kept.{Declares, instruction-of, side-kept, pair-kept, suffixed-kept, around-kept, more-kept, gap-kept, amount-kept}
 use Rattle.forms.proofs.Stands.{Behind, same, kept-behind}
 
@@ -55,7 +55,7 @@ record Held (s : List ℕ) (dotted used : Bool) (v : View) : Type 0 where
   absent : used ≡ false → v ≡ noView
 
 module _ (s : List ℕ) where
-  found-held : (dotted : Bool) (l : Label) → Found s dotted l → Held s dotted true (viewFrom l)
+  found-held : (dotted : Bool) (l : ReadLabel) → Found s dotted l → Held s dotted true (viewFrom l)
   found-held dotted l f = record { there = λ e. (f .inside, f .spelled); absent = λ e. absurd (true≢false e) }
 
   none-held : (dotted : Bool) → Held s dotted false noView
@@ -82,11 +82,11 @@ module _ (s : List ℕ) where
       }
 
   -- a record with one label
-  one-proper : (guess : Bool) (kind third x y : ℕ) (l : Label) → isGuess kind ≡ guess → fieldsTest (kindAt kind) third 1 x y ≡ true
-      → x < 2 ^ 64 → y < 2 ^ 64 → Found s (kindAt kind .dotted) l → Proper s guess (labelled kind third l x y)
+  one-proper : (guess : Bool) (kind third x y : ℕ) (l : ReadLabel) → isGuess kind ≡ guess → fieldsTest (kindAt kind) third 1 x y ≡ true
+      → x < 2 ^ 64 → y < 2 ^ 64 → Found s (kindAt kind .dotted) l → Proper s guess (oneLabelled kind third l x y)
   one-proper guess kind third x y l sort fields x-fits y-fits f =
-      let none = none-held (kindAt kind .dotted) in
-      proper-of (labelled kind third l x y) guess sort fields (omega arith) refl (each-place _ (found-held (kindAt kind .dotted) l f) none none none) x-fits y-fits
+      let numberless = none-held (kindAt kind .dotted) in
+      proper-of (oneLabelled kind third l x y) guess sort fields (omega arith) refl (each-place _ (found-held (kindAt kind .dotted) l f) numberless numberless numberless) x-fits y-fits
 
 -- ---- third bytes
 
@@ -113,12 +113,12 @@ pub record Lined (s : List ℕ) (guess : Bool) (l : Lines) : Type 0 where
   pub few : length (l .records) ≤ 2
 
 module _ (s : List ℕ) (guess : Bool) where
-  lined : (rs : List Record) (u : Stand) → 0 < length rs → length rs ≤ 2 → (Reached u → Each (Proper s guess) rs) → Lined s guess (lineOf rs u)
+  lined : (rs : List Record) (u : Stand) → 0 < length rs → length rs ≤ 2 → (Reached u → Each (Proper s guess) rs) → Lined s guess (lineThen rs u)
   lined rs (At n) some few p = record { proper = p (here n); some = λ h. some; few = few }
   lined rs Nothing some few p = record { proper = tt; some = λ h. absurd (h .is); few = omega arith }
   lined rs (Refused why) some few p = record { proper = tt; some = λ h. absurd (h .is); few = omega arith }
 
-  one-lined : (r : Record) (u : Stand) → (Reached u → Proper s guess r) → Lined s guess (lineOf (r ∷ []) u)
+  one-lined : (r : Record) (u : Stand) → (Reached u → Proper s guess r) → Lined s guess (lineThen (r ∷ []) u)
   one-lined r u p = lined (r ∷ []) u (omega arith) (omega arith) (λ h. (p h, tt))
 
 -- ---- forms
@@ -128,7 +128,7 @@ abbrev amounts : ℕ → Bool
 amounts k =
     let z = kindAt k in
     let fields : ℕ → Bool = λ third. fieldsTest z third (z .labels) 0 0 in
-    cond (eqb (z .number) none) (fields 0) (cond (eqb (z .number) number) (fields 0) (cond (eqb (z .number) expression) (fields 0) (fields 1 && fields 2)))
+    cond (eqb (z .number) numberless) (fields 0) (cond (eqb (z .number) number) (fields 0) (cond (eqb (z .number) expression) (fields 0) (fields 1 && fields 2)))
 
 abbrev row : ℕ → Bool
 row k = leb (kindAt k .labels) labelPlaces && (ltb k firstGuess && (not (kindAt k .dotted) && amounts k))
@@ -139,7 +139,7 @@ unfolding amountOn angleOn
 amount-fields s t k h =
     let z = kindAt k in
     let Q : Amount → Type 0 = λ n. (fieldsTest z (n .third) (z .labels) (n .bits) 0 ≡ true) × (n .bits < 2 ^ 64) in
-    cond-of Q (eqb (z .number) none) _ _ (λ e. (rw e (rw e at h), small))
+    cond-of Q (eqb (z .number) numberless) _ _ (λ e. (rw e (rw e at h), small))
     (λ e. cond-of Q (eqb (z .number) number) _ _ (λ f. (rw e (rw (e, f) at h), number-read s _ .fits))
     (λ f. cond-of Q (eqb (z .number) expression) _ _ (λ g. (rw e (rw (e, f, g) at h), expr-read s _ .fits))
     (λ g.
@@ -156,9 +156,9 @@ module _ (s : List ℕ) where
   declare-lined k t d =
       let at = wsOn s (wordOn s t (wordOf k)) in
       let l = labelOn s at in
-      one-lined s false (labelled k 0 l 0 0) (l .then) (λ h. one-proper s false k 0 0 0 l (d .0) (d .1) small small (rw (d .2) (label-found s at h)))
+      one-lined s false (oneLabelled k 0 l 0 0) (l .then) (λ h. one-proper s false k 0 0 0 l (d .0) (d .1) small small (rw (d .2) (label-found s at h)))
 
-  fixed-lined : (l : Label) (k : ℕ) (between : List ℕ) → isGuess k ≡ false → ((x : ℕ) → (fieldsTest (kindAt k) 1 1 x 0 ≡ true) × (fieldsTest (kindAt k) 2 1 x 0 ≡ true))
+  fixed-lined : (l : ReadLabel) (k : ℕ) (between : List ℕ) → isGuess k ≡ false → ((x : ℕ) → (fieldsTest (kindAt k) 1 1 x 0 ≡ true) × (fieldsTest (kindAt k) 2 1 x 0 ≡ true))
       → (Reached (l .then) → Found s (kindAt k .dotted) l) → Lined s false (fixedOn s l k between)
   unfolding fixedOn
   fixed-lined l k between sort fields f =
@@ -168,19 +168,19 @@ module _ (s : List ℕ) where
       let on = kept-behind s (l .then) in
       let b : Behind (l .then) (n .then) = on .number (around-kept on 61 (side-kept on (bytes "x") (bytes "y") (on .word between (same (l .then))))) in
       let w = side-third s u (bytes "x") (bytes "y") (λ third. fieldsTest (kindAt k) third 1 (n .bits) 0 ≡ true) (fields (n .bits) .0) (fields (n .bits) .1) in
-      one-lined s false (labelled k (c .third) l (n .bits) 0) (n .then)
+      one-lined s false (oneLabelled k (c .third) l (n .bits) 0) (n .then)
       (λ h. one-proper s false k (c .third) (n .bits) 0 l sort w (number-read s _ .fits) small (f (b .back h)))
 
-  assign-lined : (l : Label) → (Reached (l .then) → Found s false l) → Lined s false (assignOn s l)
+  assign-lined : (l : ReadLabel) → (Reached (l .then) → Found s false l) → Lined s false (assignOn s l)
   unfolding assignOn
   assign-lined l f =
       let m = suffixedOn s l in
       let p = pairOn s (aroundOn s (m .then) 61) in
       let on = kept-behind s (l .then) in
       let b : Behind (l .then) (p .then) = pair-kept on (around-kept on 61 (suffixed-kept on l (same (l .then)))) in
-      let one : (third x : ℕ) → fieldsTest (kindAt fixComponent) third 1 x 0 ≡ true → x < 2 ^ 64 → Reached (p .then) → Proper s false (labelled fixComponent third m x 0)
+      let one : (third x : ℕ) → fieldsTest (kindAt fixComponent) third 1 x 0 ≡ true → x < 2 ^ 64 → Reached (p .then) → Proper s false (oneLabelled fixComponent third m x 0)
       = λ third x fields fits h. one-proper s false fixComponent third x 0 m refl fields fits small (suffixed-found s l (f (b .back h))) in
-      lined s false (labelled fixComponent 1 m (p .x) 0 ∷ labelled fixComponent 2 m (p .y) 0 ∷ []) (p .then) (omega arith) (omega arith)
+      lined s false (oneLabelled fixComponent 1 m (p .x) 0 ∷ oneLabelled fixComponent 2 m (p .y) 0 ∷ []) (p .then) (omega arith) (omega arith)
       (λ h. (one 1 (p .x) refl (pair-fit s _ .0) h, (one 2 (p .y) refl (pair-fit s _ .1) h, tt)))
 
   keyword-lined : (k : ℕ) (t : Stand) → row k ≡ true → Lined s false (keywordOn s t k)
@@ -222,16 +222,16 @@ module _ (s : List ℕ) where
       (fixed-lined l fixCenter (bytes ".center.") refl (λ x. (refl, refl)) (label-found s at))
       (assign-lined l (label-found s at)) row all-rows (λ k e. keyword-lined k at e)
 
-  guessed-lined : (l : Label) (t : Stand) → (Reached t → Found s true l) → Lined s true (guessedOn s l t)
+  guessed-lined : (l : ReadLabel) (t : Stand) → (Reached t → Found s true l) → Lined s true (guessedOn s l t)
   unfolding guessedOn
   guessed-lined l t f =
       let p = pairOn s t in
       let n = numberOn s t in
       let on = kept-behind s t in
       either-of (Lined s true) (p .then) _ _
-      (one-lined s true (labelled pairGuess 0 l (p .x) (p .y)) (p .then)
+      (one-lined s true (oneLabelled pairGuess 0 l (p .x) (p .y)) (p .then)
       (λ h. one-proper s true pairGuess 0 (p .x) (p .y) l refl refl (pair-fit s t .0) (pair-fit s t .1) (f (pair-kept on (same t) .back h))))
-      (one-lined s true (labelled numberGuess 0 l (n .bits) 0) (n .then)
+      (one-lined s true (oneLabelled numberGuess 0 l (n .bits) 0) (n .then)
       (λ h. one-proper s true numberGuess 0 (n .bits) 0 l refl refl (number-read s t .fits) small (f (on .number (same t) .back h))))
 
   guess-lined : (t : Stand) → Lined s true (guessOn s t)

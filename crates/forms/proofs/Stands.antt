@@ -8,7 +8,7 @@ use denote.Enum.Declared.{tagOf}
 use Rattle.text.specs.Text.{from, due, noLabel, wsOn, wordOn, byteOn, labelOn}
 use Rattle.text.specs.declared.Stand.{Stand}
 use Rattle.text.specs.declared.Stand.the-variants.{Nothing}
-use Rattle.text.specs.declared.Label.{Label}
+use Rattle.text.specs.declared.ReadLabel.{ReadLabel}
 use Rattle.text.proofs.Stand.{the-type}
 use Rattle.text.proofs.Laws.{handed, Reached, here, from-of, either-of}
 use Rattle.text.proofs.Within.{Within, ws-within, word-within, byte-within, label-within}
@@ -16,7 +16,7 @@ use Rattle.number.specs.Number.{noNumber, numberOn, exprOn}
 use Rattle.number.specs.declared.Number.{Number}
 use Rattle.number.proofs.Within.{number-read, expr-read}
 use Rattle.record.specs.declared.Record.{Record}
-use Rattle.forms.specs.Forms.{lineOf, noLine}
+use Rattle.forms.specs.Forms.{lineThen, noLine}
 use Rattle.forms.proofs.Kept.{Kept}
 
 -- ---- a place
@@ -40,7 +40,7 @@ kept-behind s t =
       ws = λ {t = u} f. rail-behind (λ v. v) t u u _ f f;
       word = λ {t = u} w f. rail-behind (λ v. v) t u u _ f f;
       byte = λ {t = u} b f. rail-behind (λ v. v) t u u _ f f;
-      label = λ {t = u} f. rail-behind (λ (l : Label). l .then) t u (noLabel u) _ f f;
+      label = λ {t = u} f. rail-behind (λ (l : ReadLabel). l .then) t u (noLabel u) _ f f;
       number = λ {t = u} f. rail-behind (λ (n : Number). n .then) t u (noNumber u) _ f f;
       expr = λ {t = u} f. rail-behind (λ (n : Number). n .then) t u (noNumber u) _ f f;
     }
@@ -85,12 +85,12 @@ kept-nothing s =
     }
 
 -- a line whose end was not read is none
-pub unread : (rs : List Record) (t : Stand) → t ≡ Nothing → lineOf rs t ≡ noLine Nothing
+pub unread : (rs : List Record) (t : Stand) → t ≡ Nothing → lineThen rs t ≡ noLine Nothing
 unread rs t e = rw e
 
-pub halted : (t : Stand) (rs : List Record) → OneOf (1 ∷ 2 ∷ []) (tagOf the-type t) → lineOf rs t ≡ noLine t
+pub halted : (t : Stand) (rs : List Record) → OneOf (1 ∷ 2 ∷ []) (tagOf the-type t) → lineThen rs t ≡ noLine t
 halted t rs h = rw (← handed t [] (λ next. rs) h)
 
 -- a line by its records and its end
-pub line-of : {rs rs′ : List Record} {t t′ : Stand} → rs ≡ rs′ → t ≡ t′ → lineOf rs t ≡ lineOf rs′ t′
+pub line-of : {rs rs′ : List Record} {t t′ : Stand} → rs ≡ rs′ → t ≡ t′ → lineThen rs t ≡ lineThen rs′ t′
 line-of e f = rw (e, f)

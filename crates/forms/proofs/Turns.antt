@@ -17,7 +17,7 @@ use Rattle.text.proofs.Stand.{the-type}
 use Rattle.forms.specs.declared.pieces.Parsed.{Parsed}
 use Rattle.forms.specs.Forms.{Lines, noLine, lineOn}
 use Rattle.forms.specs.Section.{followedBy, restOf, linesOn, stored, SectionRead}
-use Rattle.forms.specs.Steps.{recordsOf, meant}
+use Rattle.forms.specs.Steps.{recordsOf, meantLine}
 use Rattle.forms.proofs.Begin.{line-nowhere, line-refused}
 use Rattle.forms.proofs.Storing.{stored-length, stored-append}
 
@@ -94,9 +94,9 @@ module _ (g : Bool) (s d₀ : List ℕ) (start : ℕ) where
       record { count-is = omega (arith, rw e at (l .count)); then-is = sym (rw e at (l .then)); buffer = sym (rw e at (l .buffer)) }
 
   module _ (all : Lines) (d : List ℕ) (n : ℕ) (stand other : Stand) (k : ℕ) (l : Left g s d₀ start all d n stand other k) where
-    module _ (line : Parsed) (line-is : meant line ≡ lineOn g s stand) (h : k ≤ length s) where
+    module _ (line : Parsed) (line-is : meantLine line ≡ lineOn g s stand) (h : k ≤ length s) where
       line-left : leftOf (suc (length s) - k) g s stand other
-          ≡ from (line .then) (noLine (orStand (line .then) (line .then) other)) (λ next. followedBy (meant line .records) (restOf (length s - k) g s next))
+          ≡ from (line .then) (noLine (orStand (line .then) (line .then) other)) (λ next. followedBy (meantLine line .records) (restOf (length s - k) g s next))
       unfolding leftOf
       line-left = let one : suc (length s) - k ≡ suc (length s - k) = omega arith in rw (one, ← line-is)
 

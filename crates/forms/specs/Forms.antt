@@ -8,10 +8,10 @@ use Rattle.ground.specs.Words.{bytes}
 use Rattle.text.specs.Text.{from, orStand, noLabel, wsOn, wordOn, byteOn, labelOn, suffixedOn, dottedOn}
 use Rattle.text.specs.declared.Stand.{Stand}
 use Rattle.text.specs.declared.Stand.the-variants.{Nothing}
-use Rattle.text.specs.declared.Label.{Label}
+use Rattle.text.specs.declared.ReadLabel.{ReadLabel}
 use Rattle.number.specs.Number.{numberOn, exprOn}
 use Rattle.number.specs.declared.Number.{Number}
-use Rattle.record.specs.Kinds.{newPoint, newCircle, newArc, fixComponent, fixCenter, pairGuess, numberGuess, kindAt, wordOf, none, number, expression}
+use Rattle.record.specs.Kinds.{newPoint, newCircle, newArc, fixComponent, fixCenter, pairGuess, numberGuess, kindAt, wordOf, numberless, number, expression}
 use Rattle.record.specs.Record.{oneLabel}
 use Rattle.record.specs.Decode.{noRecord}
 use Rattle.record.specs.declared.View.{View}
@@ -33,20 +33,20 @@ abbrev pub noLine : Stand → Lines
 noLine stand = record { records = []; then = stand }
 
 -- the records of a line, where its end was read
-abbrev pub lineOf : List Record → Stand → Lines
-lineOf rs stand = record { records = from stand [] (λ next. rs); then = stand }
+abbrev pub lineThen : List Record → Stand → Lines
+lineThen rs stand = record { records = from stand [] (λ next. rs); then = stand }
 
 -- the first, or the second where the first reads nothing
 abbrev pub orLine : Lines → Lines → Lines
 orLine first second = orStand (first .then) first second
 
 -- the part of the text that a label takes
-abbrev pub viewFrom : Label → View
+abbrev pub viewFrom : ReadLabel → View
 viewFrom l = record { start = l .start; len = l .len }
 
 -- a record with one label
-abbrev pub labelled : ℕ → ℕ → Label → ℕ → ℕ → Record
-labelled kind third l x y = oneLabel kind third (viewFrom l) x y
+abbrev pub oneLabelled : ℕ → ℕ → ReadLabel → ℕ → ℕ → Record
+oneLabelled kind third l x y = oneLabel kind third (viewFrom l) x y
 
 -- ---- pieces
 
@@ -84,26 +84,26 @@ pairOn s stand =
 unfoldable pub declareOn : List ℕ → Stand → ℕ → Lines
 declareOn s stand kind =
     let l = labelOn s (wsOn s (wordOn s stand (wordOf kind))) in
-    lineOf (labelled kind 0 l 0 0 ∷ []) (l .then)
+    lineThen (oneLabelled kind 0 l 0 0 ∷ []) (l .then)
 
 -- what follows the label in `L.x = N` and in `L.center.x = N`
-unfoldable pub fixedOn : List ℕ → Label → ℕ → List ℕ → Lines
+unfoldable pub fixedOn : List ℕ → ReadLabel → ℕ → List ℕ → Lines
 fixedOn s l kind between =
     let c = componentOn s (wordOn s (l .then) between) in
     let n = numberOn s (equalsOn s (c .then)) in
-    lineOf (labelled kind (c .third) l (n .bits) 0 ∷ []) (n .then)
+    lineThen (oneLabelled kind (c .third) l (n .bits) 0 ∷ []) (n .then)
 
 -- `L = (N,N)` or `L.L = (N,N)`: two records, x then y
-unfoldable pub assignOn : List ℕ → Label → Lines
+unfoldable pub assignOn : List ℕ → ReadLabel → Lines
 assignOn s first =
     let l = suffixedOn s first in
     let p = pairOn s (equalsOn s (l .then)) in
-    lineOf (labelled fixComponent 1 l (p .x) 0 ∷ labelled fixComponent 2 l (p .y) 0 ∷ []) (p .then)
+    lineThen (oneLabelled fixComponent 1 l (p .x) 0 ∷ oneLabelled fixComponent 2 l (p .y) 0 ∷ []) (p .then)
 
 -- ---- the keyword forms, by their rows in the table
 
 -- one more label behind a comma, where there is one
-unfoldable pub moreOn : List ℕ → Stand → Bool → Label
+unfoldable pub moreOn : List ℕ → Stand → Bool → ReadLabel
 moreOn s stand true = labelOn s (commasepOn s stand)
 moreOn s stand false = noLabel stand
 
@@ -122,7 +122,7 @@ plainAmount n = record { bits = n .bits; third = 0; then = n .then }
 unfoldable pub amountOn : List ℕ → Stand → ℕ → Amount
 amountOn s stand sort =
     let behind = commasepOn s stand in
-    cond (eqb sort none) (record { bits = 0; third = 0; then = stand })
+    cond (eqb sort numberless) (record { bits = 0; third = 0; then = stand })
     (cond (eqb sort number) (plainAmount (numberOn s behind))
     (cond (eqb sort expression) (plainAmount (exprOn s behind))
     (angleOn s behind)))
@@ -142,7 +142,7 @@ keywordOn s stand kind =
     let d = moreOn s (c .then) (ltb 3 (k .labels)) in
     let n = amountOn s (d .then) (k .number) in
     let views = viewFrom a ∷ viewFrom b ∷ viewFrom c ∷ viewFrom d ∷ [] in
-    lineOf (record { kind = kind; third = n .third; count = k .labels; labels = views; x = n .bits; y = 0 } ∷ [])
+    lineThen (record { kind = kind; third = n .third; count = k .labels; labels = views; x = n .bits; y = 0 } ∷ [])
     (byteOn s (gapOn s (n .then) (k .gap)) 41)
 
 -- the keyword forms in the order of parser.rs
@@ -175,11 +175,11 @@ instructionOn s stand =
     (labelFormsOn s at)))
 
 -- behind a guess's label: a point pair, else a number
-unfoldable pub guessedOn : List ℕ → Label → Stand → Lines
+unfoldable pub guessedOn : List ℕ → ReadLabel → Stand → Lines
 guessedOn s l stand =
     let p = pairOn s stand in
     let n = numberOn s stand in
-    orStand (p .then) (lineOf (labelled pairGuess 0 l (p .x) (p .y) ∷ []) (p .then)) (lineOf (labelled numberGuess 0 l (n .bits) 0 ∷ []) (n .then))
+    orStand (p .then) (lineThen (oneLabelled pairGuess 0 l (p .x) (p .y) ∷ []) (p .then)) (lineThen (oneLabelled numberGuess 0 l (n .bits) 0 ∷ []) (n .then))
 
 -- `parse_guess`: spaces, L or L.L, spaces, `roughly`, spaces, and its numbers
 unfoldable pub guessOn : List ℕ → Stand → Lines

@@ -9,12 +9,12 @@ use Rattle.ground.specs.Words.{bytes}
 use Rattle.text.specs.Text.{refusedAt}
 use Rattle.text.specs.declared.Stand.{Stand}
 use Rattle.text.specs.declared.Stand.the-variants.{At}
-use Rattle.text.specs.declared.Label.{Label}
+use Rattle.text.specs.declared.ReadLabel.{ReadLabel}
 use Rattle.record.specs.Kinds.{newPoint, newCircle, newArc, fixComponent, fixCenter, wordOf}
 use Rattle.record.specs.declared.Record.{Record}
 use Rattle.forms.specs.declared.pieces.Parsed.{Parsed}
 use Rattle.forms.specs.declared.declarations.Declared.{Declared}
-use Rattle.forms.specs.Forms.{Lines, lineOf, orLine, labelled, declareOn, fixedOn, assignOn, keywordKinds, firstOf}
+use Rattle.forms.specs.Forms.{Lines, lineThen, orLine, oneLabelled, declareOn, fixedOn, assignOn, keywordKinds, firstOf}
 use Rattle.forms.specs.Section.{stored}
 
 -- ---- a line as the code hands it about
@@ -28,8 +28,8 @@ abbrev pub recordsOf : Parsed → List Record
 recordsOf l = cond (l .two) (component (l .first) 1 (l .first .x) ∷ component (l .first) 2 (l .first .y) ∷ []) (l .first ∷ [])
 
 -- the line that it means
-abbrev pub meant : Parsed → Lines
-meant l = lineOf (recordsOf l) (l .then)
+abbrev pub meantLine : Parsed → Lines
+meantLine l = lineThen (recordsOf l) (l .then)
 
 -- records stored from a place on, and the next place
 pub record Stored (d : List ℕ) (n : ℕ) (rs : List Record) (next : ℕ) (d′ : List ℕ) : Type 0 where
@@ -48,14 +48,14 @@ declarationOn s stand = orLine (declareOn s stand newPoint) (orLine (declareOn s
 
 -- the line of a declaration
 abbrev pub declared : Declared → Lines
-declared d = lineOf (labelled (d .kind) 0 (d .label) 0 0 ∷ []) (d .label .then)
+declared d = lineThen (oneLabelled (d .kind) 0 (d .label) 0 0 ∷ []) (d .label .then)
 
 -- an assignment, then the keyword forms
-abbrev pub assignedOn : List ℕ → Stand → Label → Lines
+abbrev pub assignedOn : List ℕ → Stand → ReadLabel → Lines
 assignedOn s at l = orLine (assignOn s l) (firstOf s at keywordKinds)
 
 -- the forms that begin with a label, which was read, then the keyword forms
-abbrev pub behindOn : List ℕ → Stand → Label → Lines
+abbrev pub behindOn : List ℕ → Stand → ReadLabel → Lines
 behindOn s at l = orLine (fixedOn s l fixComponent (bytes ".")) (orLine (fixedOn s l fixCenter (bytes ".center.")) (assignedOn s at l))
 
 -- a word may begin with a byte

@@ -10,17 +10,17 @@ ghost use Rattle.forms.specs.Steps.{declarationOn, declared};
 use crate::keywords;
 use crate::pieces;
 use record::kinds;
-use text::Label;
+use text::ReadLabel;
 use text::Stand;
 
 // A declaration: its kind and its label.
 pub struct Declared {
     pub kind: u8,
-    pub label: Label,
+    pub label: ReadLabel,
 }
 
 // The label behind the word of a declaration; the space between them may be missing.
-fn label_behind(text: &[u8], word: Stand) -> Label
+fn label_behind(text: &[u8], word: Stand) -> ReadLabel
     ensures { λ r. ⌜ r ≡ labelOn (now (text .entry)) (wsOn (now (text .entry)) word) ⌝ }
 {
     let s = text::ws(text, word);

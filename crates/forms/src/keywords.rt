@@ -7,7 +7,7 @@ ghost use Rattle.text.specs.Text.{wordOn};
 ghost use Rattle.text.specs.declared.Stand.the-variants.{At, Nothing};
 ghost use Rattle.record.specs.Kinds.{table, wordOf};
 ghost use Rattle.forms.specs.Forms.{keywordOn, keywordKinds, firstOf};
-ghost use Rattle.forms.specs.Steps.{meant, noneBegins};
+ghost use Rattle.forms.specs.Steps.{meantLine, noneBegins};
 use crate::pieces;
 use crate::pieces::Parsed;
 use record::Record;
@@ -64,7 +64,7 @@ pub(crate) fn keyword(text: &[u8], stand: Stand, word: Word) -> Stand
 // A keyword form, by its row in the table.
 fn keyword_form(text: &[u8], stand: Stand, kind: u8, kinds: &[[u8; 8]; 26]) -> Parsed
     requires { ⌜ now kinds ≡ table ⌝ }
-    ensures { λ r. ⌜ meant r ≡ keywordOn (now (text .entry)) stand kind ⌝ }
+    ensures { λ r. ⌜ meantLine r ≡ keywordOn (now (text .entry)) stand kind ⌝ }
 {
     let labels = kinds::look(kinds, kind, kinds::LABELS);
     let s = keyword(text, stand, kinds::word_of(kind));
@@ -107,7 +107,7 @@ fn keyword_form(text: &[u8], stand: Stand, kind: u8, kinds: &[[u8; 8]; 26]) -> P
 // A keyword form, where its word may stand there.
 fn try_keyword(text: &[u8], stand: Stand, kind: u8, kinds: &[[u8; 8]; 26]) -> Parsed
     requires { ⌜ (now kinds ≡ table) × (2 ≤ length (wordOf kind)) ⌝ }
-    ensures { λ r. ⌜ meant r ≡ keywordOn (now (text .entry)) stand kind ⌝ }
+    ensures { λ r. ⌜ meantLine r ≡ keywordOn (now (text .entry)) stand kind ⌝ }
 {
     if may_stand(text, stand, kind) {
         return keyword_form(text, stand, kind, kinds);
@@ -138,7 +138,7 @@ fn skip_to(b: u8) -> usize
 // The first keyword form that reads at a place.
 pub(crate) fn keyword_forms(text: &[u8], at: usize, kinds: &[[u8; 8]; 26]) -> Parsed
     requires { ⌜ now kinds ≡ table ⌝ }
-    ensures { λ r. ⌜ meant r ≡ firstOf (now (text .entry)) (At at) keywordKinds ⌝ }
+    ensures { λ r. ⌜ meantLine r ≡ firstOf (now (text .entry)) (At at) keywordKinds ⌝ }
 {
     let order = KEYWORD_KINDS;
     let mut i = skip_to(text::byte_at(text, at));

@@ -3,17 +3,17 @@ ghost use mathlib.Core.Path.{_≡_};
 ghost use Rattle.text.specs.declared.Stand.the-variants.{At};
 ghost use Rattle.record.specs.Kinds.{table};
 ghost use Rattle.forms.specs.Forms.{fixedOn, assignOn, labelFormsOn};
-ghost use Rattle.forms.specs.Steps.{meant, assignedOn, behindOn};
+ghost use Rattle.forms.specs.Steps.{meantLine, assignedOn, behindOn};
 use crate::keywords;
 use crate::pieces;
 use crate::pieces::Parsed;
 use record::kinds;
-use text::Label;
+use text::ReadLabel;
 use text::Stand;
 
 // What follows the label of a fixed component: a word, x or y, `=` and a number.
-fn fix_component(text: &[u8], l: Label, kind: u8, between: &[u8]) -> Parsed
-    ensures { λ r. ⌜ meant r ≡ fixedOn (now (text .entry)) l kind (now (between .entry)) ⌝ }
+fn fix_component(text: &[u8], l: ReadLabel, kind: u8, between: &[u8]) -> Parsed
+    ensures { λ r. ⌜ meantLine r ≡ fixedOn (now (text .entry)) l kind (now (between .entry)) ⌝ }
 {
     let s = l.then;
     let s = text::word(text, s, between);
@@ -30,8 +30,8 @@ fn fix_component(text: &[u8], l: Label, kind: u8, between: &[u8]) -> Parsed
 }
 
 // What follows the label of an assignment: a second part, `=` and a pair. It is two records, x then y.
-fn assign_point(text: &[u8], first: Label) -> Parsed
-    ensures { λ r. ⌜ meant r ≡ assignOn (now (text .entry)) first ⌝ }
+fn assign_point(text: &[u8], first: ReadLabel) -> Parsed
+    ensures { λ r. ⌜ meantLine r ≡ assignOn (now (text .entry)) first ⌝ }
 {
     let l = text::opt_suffix(text, first);
     let s = l.then;
@@ -46,9 +46,9 @@ fn assign_point(text: &[u8], first: Label) -> Parsed
 }
 
 // An assignment, and then the forms that begin with a keyword.
-fn assign_forms(text: &[u8], at: usize, l: Label, kinds: &[[u8; 8]; 26]) -> Parsed
+fn assign_forms(text: &[u8], at: usize, l: ReadLabel, kinds: &[[u8; 8]; 26]) -> Parsed
     requires { ⌜ now kinds ≡ table ⌝ }
-    ensures { λ r. ⌜ meant r ≡ assignedOn (now (text .entry)) (At at) l ⌝ }
+    ensures { λ r. ⌜ meantLine r ≡ assignedOn (now (text .entry)) (At at) l ⌝ }
 {
     let line = assign_point(text, l);
     let then = line.then;
@@ -59,9 +59,9 @@ fn assign_forms(text: &[u8], at: usize, l: Label, kinds: &[[u8; 8]; 26]) -> Pars
 }
 
 // The forms that begin with a label, and then those that begin with a keyword.
-fn dotted_forms(text: &[u8], at: usize, l: Label, kinds: &[[u8; 8]; 26]) -> Parsed
+fn dotted_forms(text: &[u8], at: usize, l: ReadLabel, kinds: &[[u8; 8]; 26]) -> Parsed
     requires { ⌜ now kinds ≡ table ⌝ }
-    ensures { λ r. ⌜ meant r ≡ behindOn (now (text .entry)) (At at) l ⌝ }
+    ensures { λ r. ⌜ meantLine r ≡ behindOn (now (text .entry)) (At at) l ⌝ }
 {
     let line = fix_component(text, l, kinds::FIX_COMPONENT, b".");
     let then = line.then;
@@ -79,7 +79,7 @@ fn dotted_forms(text: &[u8], at: usize, l: Label, kinds: &[[u8; 8]; 26]) -> Pars
 // The same by the byte behind the label: a point, or a bracket or a low line, which tells a keyword.
 pub(crate) fn label_forms(text: &[u8], at: usize, kinds: &[[u8; 8]; 26]) -> Parsed
     requires { ⌜ now kinds ≡ table ⌝ }
-    ensures { λ r. ⌜ meant r ≡ labelFormsOn (now (text .entry)) (At at) ⌝ }
+    ensures { λ r. ⌜ meantLine r ≡ labelFormsOn (now (text .entry)) (At at) ⌝ }
 {
     let l = text::parse_label(text, Stand::At(at));
     let then = l.then;

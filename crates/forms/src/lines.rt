@@ -2,7 +2,7 @@
 ghost use mathlib.Core.Path.{_≡_};
 ghost use Rattle.record.specs.Kinds.{table};
 ghost use Rattle.forms.specs.Forms.{instructionOn, guessedOn, guessOn, lineOn, handedOut};
-ghost use Rattle.forms.specs.Steps.{component, meant};
+ghost use Rattle.forms.specs.Steps.{component, meantLine};
 use crate::Line;
 use crate::declarations;
 use crate::labels;
@@ -10,13 +10,13 @@ use crate::pieces;
 use crate::pieces::Parsed;
 use record::Record;
 use record::kinds;
-use text::Label;
+use text::ReadLabel;
 use text::Stand;
 
 // An instruction: spaces, then the first form that reads.
 fn parse_instruction(text: &[u8], stand: Stand, kinds: &[[u8; 8]; 26]) -> Parsed
     requires { ⌜ now kinds ≡ table ⌝ }
-    ensures { λ r. ⌜ meant r ≡ instructionOn (now (text .entry)) stand ⌝ }
+    ensures { λ r. ⌜ meantLine r ≡ instructionOn (now (text .entry)) stand ⌝ }
 {
     let s = text::ws(text, stand);
     let Stand::At(at) = s else {
@@ -36,8 +36,8 @@ fn parse_instruction(text: &[u8], stand: Stand, kinds: &[[u8; 8]; 26]) -> Parsed
 }
 
 // What follows the label of a guess: a point pair, else a number.
-fn guessed(text: &[u8], l: Label, stand: Stand) -> Parsed
-    ensures { λ r. ⌜ meant r ≡ guessedOn (now (text .entry)) l stand ⌝ }
+fn guessed(text: &[u8], l: ReadLabel, stand: Stand) -> Parsed
+    ensures { λ r. ⌜ meantLine r ≡ guessedOn (now (text .entry)) l stand ⌝ }
 {
     let p = pieces::parse_point(text, stand);
     let then = p.then;
@@ -59,7 +59,7 @@ fn guessed(text: &[u8], l: Label, stand: Stand) -> Parsed
 
 // A guess: spaces, a label, spaces, `roughly`, spaces, and its numbers.
 fn parse_guess(text: &[u8], stand: Stand) -> Parsed
-    ensures { λ r. ⌜ meant r ≡ guessOn (now (text .entry)) stand ⌝ }
+    ensures { λ r. ⌜ meantLine r ≡ guessOn (now (text .entry)) stand ⌝ }
 {
     let s = text::ws(text, stand);
     let l = text::parse_label_opt_suffix(text, s);
@@ -73,7 +73,7 @@ fn parse_guess(text: &[u8], stand: Stand) -> Parsed
 // An instruction or a guess.
 pub(crate) fn line_at(text: &[u8], stand: Stand, guess: bool, kinds: &[[u8; 8]; 26]) -> Parsed
     requires { ⌜ now kinds ≡ table ⌝ }
-    ensures { λ r. ⌜ meant r ≡ lineOn guess (now (text .entry)) stand ⌝ }
+    ensures { λ r. ⌜ meantLine r ≡ lineOn guess (now (text .entry)) stand ⌝ }
 {
     if guess {
         return parse_guess(text, stand);
@@ -98,7 +98,7 @@ pub(crate) fn with_component(r: Record, third: u8, x: u64) -> Record
 
 // A line as it is handed out.
 pub(crate) fn hand_out(line: Parsed) -> Line
-    ensures { λ r. ⌜ r ≡ handedOut (meant line) ⌝ }
+    ensures { λ r. ⌜ r ≡ handedOut (meantLine line) ⌝ }
 {
     let first = line.first;
     let then = line.then;

@@ -1,12 +1,12 @@
 // What forms are made of: bytes with spaces around them, one of two words, point pairs, labels behind commas, numbers of a row's sort.
 ghost use mathlib.Core.Path.{_≡_};
 ghost use Rattle.text.specs.Text.{noLabel};
-ghost use Rattle.forms.specs.Forms.{viewFrom, labelled, aroundOn, eitherOn, componentOn, pairOn, moreOn, angleOn, plainAmount, amountOn, gapOn};
+ghost use Rattle.forms.specs.Forms.{viewFrom, oneLabelled, aroundOn, eitherOn, componentOn, pairOn, moreOn, angleOn, plainAmount, amountOn, gapOn};
 use number::Number;
 use record::Record;
 use record::View;
 use record::kinds;
-use text::Label;
+use text::ReadLabel;
 use text::Stand;
 
 // A line in short: its first record, whether there are two, and where reading stands behind it. Of two, the first has both numbers, as x and y.
@@ -48,10 +48,10 @@ pub(crate) fn no_line(then: Stand) -> Parsed
 }
 
 // No label: where reading stands instead.
-pub(crate) fn no_label(then: Stand) -> Label
+pub(crate) fn no_label(then: Stand) -> ReadLabel
     ensures { λ r. ⌜ r ≡ noLabel then ⌝ }
 {
-    Label {
+    ReadLabel {
         start: 0,
         len: 0,
         then,
@@ -59,7 +59,7 @@ pub(crate) fn no_label(then: Stand) -> Label
 }
 
 // The part of the text that a label takes.
-pub(crate) fn view_from(l: Label) -> View
+pub(crate) fn view_from(l: ReadLabel) -> View
     ensures { λ r. ⌜ r ≡ viewFrom l ⌝ }
 {
     View {
@@ -69,8 +69,8 @@ pub(crate) fn view_from(l: Label) -> View
 }
 
 // A record with one label.
-pub(crate) fn labelled(kind: u8, third: u8, l: Label, x: u64, y: u64) -> Record
-    ensures { λ r. ⌜ r ≡ labelled kind third l x y ⌝ }
+pub(crate) fn labelled(kind: u8, third: u8, l: ReadLabel, x: u64, y: u64) -> Record
+    ensures { λ r. ⌜ r ≡ oneLabelled kind third l x y ⌝ }
 {
     record::one_label(kind, third, view_from(l), x, y)
 }
@@ -128,7 +128,7 @@ pub(crate) fn parse_point(text: &[u8], stand: Stand) -> Pair
 }
 
 // One more label behind a comma, where there is one.
-pub(crate) fn more(text: &[u8], stand: Stand, on: bool) -> Label
+pub(crate) fn more(text: &[u8], stand: Stand, on: bool) -> ReadLabel
     ensures { λ r. ⌜ r ≡ moreOn (now (text .entry)) stand on ⌝ }
 {
     if on {

@@ -11,3 +11,8 @@ flat f (x ∷ xs) = f x ++ flat f xs
 abbrev pub sumTo : (ℕ → ℕ) → ℕ → ℕ
 sumTo f zero = 0
 sumTo f (suc n) = sumTo f n + f n
+
+-- f 0, f 1, .., n of them
+abbrev pub upTo : {A : Type 0} → ℕ → (ℕ → A) → List A
+upTo zero f = []
+upTo (suc n) f = f zero ∷ upTo n (λ k. f (suc k))

@@ -10,15 +10,16 @@ use lib.ListN.{length, getD, drop, List·getD-eq-default}
 use lib.Seq.{getD-take, getD-drop, ext-getD}
 use lib.Dec.{ltb}
 use borrow.Author.Tests.{lt-ltb, le-ltb, ltb-true}
+use Rattle.ground.specs.Lists.{upTo}
 use Rattle.ground.proofs.Lists.{and-first, and-second}
 use Rattle.bytes.specs.Little.{byte, u16}
 use Rattle.record.specs.declared.View.{View}
 use Rattle.record.specs.declared.Record.{Record}
 use Rattle.record.specs.Record.{recordBytes, labelPlaces}
 use Rattle.record.specs.Decode.{decode, countOf, recordOf, decodeAt, viewAt, placeIn, hasPlace}
-use Rattle.record.specs.Entry.{Label, Entry, noEntry, entryAt, labelNo, part, named, upTo, entryOf, noView, viewOf}
+use Rattle.record.specs.Entry.{Label, Entry, noEntry, entryAt, labelNo, part, named, entryOf, noView, viewOf}
 use Rattle.record.specs.Formed.{WellFormed, entries}
-use Rattle.record.proofs.UpTo.{length-up-to, getD-up-to}
+use Rattle.ground.proofs.UpTo.{length-up-to, getD-up-to}
 use Rattle.record.proofs.Entries.{entry-good, entry-at, whole-length}
 use Rattle.index.specs.Labels.{startIn, labelStart, drawn, kindNo}
 

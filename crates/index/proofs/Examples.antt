@@ -6,7 +6,7 @@ use Prim.Native.String.{String}
 use Rattle.ground.specs.Words.{bytes}
 use Rattle.record.specs.Entry.{Entry}
 use Rattle.index.specs.Labels.{labelled}
-use Rattle.index.specs.Chains.{tableOf, hashFrom, hashOf, hashed, firstOf, from, headOf, nextOf, walk, walkOf}
+use Rattle.index.specs.Chains.{tableOf, hashFrom, hashOf, hashed, firstAmong, firstFrom, headOf, nextOf, walk, walkOf}
 
 abbrev one : ℕ → String → Entry
 one kind l = record { kind = kind; third = 0; labels = bytes l ∷ []; x = 0; y = 0 }
@@ -36,5 +36,5 @@ answers =
     ∷ []
 
 pub examples : answers ≡ 602 ∷ 602 ∷ 0 ∷ 3 ∷ 4 ∷ 6 ∷ 6 ∷ 6 ∷ 6 ∷ []
-unfolding labelled hashFrom hashed firstOf from headOf nextOf walk walkOf
+unfolding labelled hashFrom hashed firstAmong firstFrom headOf nextOf walk walkOf
 examples = refl

@@ -16,7 +16,7 @@ use Rattle.refusal.specs.First.{SomeBelow, EachBelow, anyBelow, lowest}
 use Rattle.refusal.proofs.Says.{Says, refuted, says-once, says-so, says-iff, says-lt, says-any}
 use Rattle.refusal.proofs.Search.{Searched, at, nowhere, searched, stops-here, goes-through}
 use Rattle.index.specs.Labels.{placeOr, lowestOr}
-use Rattle.index.specs.Chains.{firstOf, from}
+use Rattle.index.specs.Chains.{firstAmong, firstFrom}
 
 -- ---- a list at a place, after a store
 
@@ -67,8 +67,8 @@ pub record FirstIs (p : ℕ → Bool) (n i x : ℕ) : Type 0 where
   pub passes : x < n → p x ≡ true
   none-before : (j : ℕ) → i ≤ j → j < x → p j ≡ false
 
-first-is : (p : ℕ → Bool) (m i : ℕ) → FirstIs p (i + m) i (firstOf p m i)
-unfolding firstOf
+first-is : (p : ℕ → Bool) (m i : ℕ) → FirstIs p (i + m) i (firstAmong p m i)
+unfolding firstAmong
 first-is p zero i = record { after = omega arith; up-to = omega arith; passes = λ h. absurd (omega arith); none-before = λ j a b. absurd (omega arith) }
 first-is p (suc m) i = go (p i) refl (first-is p m (suc i))
   where
@@ -87,45 +87,45 @@ contra false u f e = refl
 
 -- where a test passes only if another does, the first that passes it is found from the first that passes the other
 module _ (p q : ℕ → Bool) (f : (i : ℕ) → p i ≡ true → q i ≡ true) where
-  skip-step : (m i n : ℕ) → i + suc m ≡ n → (t : Bool) → q i ≡ t → firstOf p m (suc i) ≡ firstOf p (n - firstOf q m (suc i)) (firstOf q m (suc i))
-      → firstOf p (suc m) i ≡ firstOf p (n - cond t i (firstOf q m (suc i))) (cond t i (firstOf q m (suc i)))
-  unfolding firstOf
+  skip-step : (m i n : ℕ) → i + suc m ≡ n → (t : Bool) → q i ≡ t → firstAmong p m (suc i) ≡ firstAmong p (n - firstAmong q m (suc i)) (firstAmong q m (suc i))
+      → firstAmong p (suc m) i ≡ firstAmong p (n - cond t i (firstAmong q m (suc i))) (cond t i (firstAmong q m (suc i)))
+  unfolding firstAmong
   skip-step m i n e true h r = let z : n - i ≡ suc m = omega arith in rw z
   skip-step m i n e false h r = rw (contra (p i) (q i) (f i) h) r
 
-  skip-first : (m i n : ℕ) → i + m ≡ n → firstOf p m i ≡ firstOf p (n - firstOf q m i) (firstOf q m i)
-  unfolding firstOf
+  skip-first : (m i n : ℕ) → i + m ≡ n → firstAmong p m i ≡ firstAmong p (n - firstAmong q m i) (firstAmong q m i)
+  unfolding firstAmong
   skip-first zero i n e = let z : n - i ≡ 0 = omega arith in rw z
   skip-first (suc m) i n e = skip-step m i n e (q i) refl (skip-first m (suc i) n (omega arith))
 
-  pub skip : (n i : ℕ) → i ≤ n → from p n i ≡ from p n (from q n i)
-  unfolding from
+  pub skip : (n i : ℕ) → i ≤ n → firstFrom p n i ≡ firstFrom p n (firstFrom q n i)
+  unfolding firstFrom
   skip n i h = skip-first (n - i) i n (omega arith)
 
 -- ---- the first from i on
 
 module _ (p : ℕ → Bool) (n i : ℕ) where
-  pub from-more : i < n → p i ≡ false → from p n i ≡ from p n (i + 1)
-  unfolding from firstOf
+  pub from-more : i < n → p i ≡ false → firstFrom p n i ≡ firstFrom p n (i + 1)
+  unfolding firstFrom firstAmong
   from-more h e = let z : n - i ≡ suc (n - suc i) = omega arith in rw (z, e, add-one)
 
-  pub from-stop : i < n → p i ≡ true → from p n i ≡ i
-  unfolding from firstOf
+  pub from-stop : i < n → p i ≡ true → firstFrom p n i ≡ i
+  unfolding firstFrom firstAmong
   from-stop h e = let z : n - i ≡ suc (n - suc i) = omega arith in rw (z, e)
 
-  pub from-end : n ≤ i → from p n i ≡ i
-  unfolding from firstOf
+  pub from-end : n ≤ i → firstFrom p n i ≡ i
+  unfolding firstFrom firstAmong
   from-end h = let z : n - i ≡ 0 = omega arith in rw z
 
-  pub from-is : i ≤ n → FirstIs p n i (from p n i)
-  unfolding from
+  pub from-is : i ≤ n → FirstIs p n i (firstFrom p n i)
+  unfolding firstFrom
   from-is h = let z : i + (n - i) ≡ n = omega arith in rw z at (first-is p (n - i) i)
 
 -- from 0 on it is the plain search
-pub from-plain : (p : ℕ → Bool) (n : ℕ) → from p n 0 ≡ lowestOr n p
+pub from-plain : (p : ℕ → Bool) (n : ℕ) → firstFrom p n 0 ≡ lowestOr n p
 from-plain p n =
     let f = from-is p n 0 (omega arith) in
-    elim (decLt (from p n 0) n) [
-      | yes h ↦ lowest-here n p (from p n 0) h (f .passes h) (λ j b. f .none-before j (omega arith) b)
-      | no g ↦ (let z : from p n 0 ≡ n = omega (arith, f .up-to, g) in z ∙ lowest-nowhere n p (λ j b. f .none-before j (omega arith) (omega (arith, b, g))))
+    elim (decLt (firstFrom p n 0) n) [
+      | yes h ↦ lowest-here n p (firstFrom p n 0) h (f .passes h) (λ j b. f .none-before j (omega arith) b)
+      | no g ↦ (let z : firstFrom p n 0 ≡ n = omega (arith, f .up-to, g) in z ∙ lowest-nowhere n p (λ j b. f .none-before j (omega arith) (omega (arith, b, g))))
     ]

@@ -13,7 +13,7 @@ use Rattle.refusal.proofs.Says.{says-and}
 use Rattle.record.specs.Record.{mostRecords}
 use Rattle.record.specs.Entry.{Label, Entry}
 use Rattle.index.specs.Labels.{kindNo, nameNo, labelled, lowestOr}
-use Rattle.index.specs.Chains.{chains, room, nextIn, hashOf, hashed, from, headOf, tableOf, Made, Chained, walk, walkOf}
+use Rattle.index.specs.Chains.{chains, roomFor, nextIn, hashOf, hashed, firstFrom, headOf, tableOf, MadeTable, Chained, walk, walkOf}
 use Rattle.index.proofs.Laws.{says-same, says-within, hash-small}
 use Rattle.index.proofs.First.{FirstIs, skip, from-more, from-stop, from-end, from-is, from-plain, lowest-below}
 use Rattle.index.proofs.Links.{says-hashed, next-in, says-room, table-head, table-next, table-long}
@@ -73,10 +73,10 @@ module _ (es : List Entry) (low high : ℕ) (cs : List ℕ) (l : Label) where
 -- ---- tables that hold the chains
 
 -- what `chain` makes of a table that has room for the most records of a page
-pub chained : {es : List Entry} {low high : ℕ} {cs after : List ℕ} {answer : Bool} → length es ≤ mostRecords → Made es low high cs answer after → length cs ≡ chains + mostRecords
+pub chained : {es : List Entry} {low high : ℕ} {cs after : List ℕ} {answer : Bool} → length es ≤ mostRecords → MadeTable es low high cs answer after → length cs ≡ chains + mostRecords
     → Chained es low high after
 chained {es} {low} {high} {cs} {after} few m long =
-    let r : room (length es) (length cs) ≡ true = says-room (length es) (length cs) .back (omega (arith, few), omega (arith, few, long)) in
+    let r : roomFor (length es) (length cs) ≡ true = says-room (length es) (length cs) .back (omega (arith, few), omega (arith, few, long)) in
     let is : after ≡ tableOf es low high cs = rw r at (m .table) in
     let same : length after ≡ length cs = ap length is ∙ table-long es low high cs (omega (arith, few, long)) in
     record {
@@ -94,26 +94,26 @@ module _ (es : List Entry) (lo hi low high : ℕ) (cs : List ℕ) (l : Label) (c
       says-hashed es lo hi (hashOf l) i .back (says-within lo hi (kindNo es i) .back (omega (arith, w .0), omega (arith, w .0)), ap hashOf (w .1))
 
   module _ (i : ℕ) (lt : i < length es) (h : hashed es lo hi (hashOf l) i ≡ true) where
-    next-is : nextIn cs i ≡ from (hashed es lo hi (hashOf l)) (length es) (i + 1)
+    next-is : nextIn cs i ≡ firstFrom (hashed es lo hi (hashOf l)) (length es) (i + 1)
     next-is =
         let w = says-hashed es lo hi (hashOf l) i .so h in
-        c .next i lt ∙ next-in es lo hi i (w .0) ∙ ap (λ (k : ℕ). from (hashed es lo hi k) (length es) (i + 1)) (w .1)
+        c .next i lt ∙ next-in es lo hi i (w .0) ∙ ap (λ (k : ℕ). firstFrom (hashed es lo hi k) (length es) (i + 1)) (w .1)
 
     next-first : FirstIs (hashed es lo hi (hashOf l)) (length es) (i + 1) (nextIn cs i)
     next-first = rw next-is (from-is (hashed es lo hi (hashOf l)) (length es) (i + 1) (omega arith))
 
-    next-rest : labelled es low high l i ≡ false → from (labelled es low high l) (length es) i ≡ from (labelled es low high l) (length es) (nextIn cs i)
+    next-rest : labelled es low high l i ≡ false → firstFrom (labelled es low high l) (length es) i ≡ firstFrom (labelled es low high l) (length es) (nextIn cs i)
     next-rest e =
         from-more (labelled es low high l) (length es) i lt e
         ∙ rw next-is (skip (labelled es low high l) (hashed es lo hi (hashOf l)) labelled-hashed (length es) (i + 1) (omega arith))
 
   -- the walk from an entry of the label's chain is the plain search from there
-  walked-past : (m i : ℕ) → i ≤ length es → length es ≤ i → walk es low high cs l m i ≡ from (labelled es low high l) (length es) i
+  walked-past : (m i : ℕ) → i ≤ length es → length es ≤ i → walk es low high cs l m i ≡ firstFrom (labelled es low high l) (length es) i
   walked-past m i b k =
       let z : length es ≡ i = omega arith in
       walk-past es low high cs l m i k ∙ z ∙ sym (from-end (labelled es low high l) (length es) i k)
 
-  walked : (m i : ℕ) → length es ≤ m + i → i ≤ length es → (i < length es → hashed es lo hi (hashOf l) i ≡ true) → walk es low high cs l m i ≡ from (labelled es low high l) (length es) i
+  walked : (m i : ℕ) → length es ≤ m + i → i ≤ length es → (i < length es → hashed es lo hi (hashOf l) i ≡ true) → walk es low high cs l m i ≡ firstFrom (labelled es low high l) (length es) i
   walked zero i a b h = walked-past zero i b (omega arith)
   walked (suc m) i a b h =
       elim (decLt i (length es)) [
@@ -122,8 +122,8 @@ module _ (es : List Entry) (lo hi low high : ℕ) (cs : List ℕ) (l : Label) (c
         | no f ↦ walked-past (suc m) i b (omega (arith, f))
       ]
     where
-      go : (lt : i < length es) (t : Bool) → labelled es low high l i ≡ t → i < nextIn cs i → walk es low high cs l m (nextIn cs i) ≡ from (labelled es low high l) (length es) (nextIn cs i)
-          → walk es low high cs l (suc m) i ≡ from (labelled es low high l) (length es) i
+      go : (lt : i < length es) (t : Bool) → labelled es low high l i ≡ t → i < nextIn cs i → walk es low high cs l m (nextIn cs i) ≡ firstFrom (labelled es low high l) (length es) (nextIn cs i)
+          → walk es low high cs l (suc m) i ≡ firstFrom (labelled es low high l) (length es) i
       go lt true e up rest = walk-here es low high cs l m i lt e ∙ sym (from-stop (labelled es low high l) (length es) i lt e)
       go lt false e up rest = walk-next es low high cs l m i lt e up ∙ rest ∙ sym (next-rest i lt (h lt) e)
 
@@ -133,9 +133,9 @@ module _ (es : List Entry) (lo hi low high : ℕ) (cs : List ℕ) (l : Label) (c
       let n = length es in
       let q = hashed es lo hi (hashOf l) in
       let f = from-is q n 0 (omega arith) in
-      let first : getD cs (hashOf l) 0 ≡ from q n 0 = c .head (hashOf l) (hash-small 0 l (omega arith)) in
+      let first : getD cs (hashOf l) 0 ≡ firstFrom q n 0 = c .head (hashOf l) (hash-small 0 l (omega arith)) in
       rw (c .roomy, first) (
-      walked n (from q n 0) (omega arith) (f .up-to) (f .passes)
+      walked n (firstFrom q n 0) (omega arith) (f .up-to) (f .passes)
       ∙ sym (skip (labelled es low high l) q labelled-hashed n 0 (omega arith))
       ∙ from-plain (labelled es low high l) n
       )

@@ -6,11 +6,12 @@ use Prim.Native.Nat.{ℕ, _+_, _-_, _≤_, _<_}
 use native.Mathlib.Omega.{arith}
 use lib.ListN.{length, getD, take, drop, set, take-append-drop, length-set, length-append, length-drop, List·getD-append}
 use lib.Seq.{ext-getD, getD-take, getD-drop, getD-append-add, drop-drop, length-take-le}
+use Rattle.ground.specs.Lists.{upTo}
 use Rattle.refusal.proofs.Says.{Says, refuted, says-so, says-and, says-eq, says-le}
-use Rattle.record.specs.Entry.{Entry, upTo}
-use Rattle.record.proofs.UpTo.{length-up-to, getD-up-to, up-to-list}
+use Rattle.record.specs.Entry.{Entry}
+use Rattle.ground.proofs.UpTo.{length-up-to, getD-up-to, up-to-list}
 use Rattle.index.specs.Labels.{kindNo, nameNo, within}
-use Rattle.index.specs.Chains.{chains, most, room, nextIn, hashOf, hashed, from, headOf, nextOf, tableOf, Made}
+use Rattle.index.specs.Chains.{chains, mostEntries, roomFor, nextIn, hashOf, hashed, firstFrom, headOf, nextOf, tableOf, MadeTable}
 use Rattle.index.specs.Steps.{Emptied, Links}
 use Rattle.index.proofs.First.{put, from-more, from-stop, from-end}
 
@@ -21,20 +22,20 @@ unfolding hashed
 says-hashed es low high h i = says-and says-so (says-eq _ _)
 
 module _ (es : List Entry) (low high i : ℕ) where
-  pub next-in : within low high (kindNo es i) ≡ true → nextOf es low high i ≡ from (hashed es low high (hashOf (nameNo es i))) (length es) (i + 1)
+  pub next-in : within low high (kindNo es i) ≡ true → nextOf es low high i ≡ firstFrom (hashed es low high (hashOf (nameNo es i))) (length es) (i + 1)
   unfolding nextOf
   next-in d = rw d
 
 -- ---- room
 
-pub says-room : (n size : ℕ) → Says (room n size) ((n ≤ most) × (chains + n ≤ size))
-says-room n size = says-and (says-le n most) (says-le (chains + n) size)
+pub says-room : (n size : ℕ) → Says (roomFor n size) ((n ≤ mostEntries) × (chains + n ≤ size))
+says-room n size = says-and (says-le n mostEntries) (says-le (chains + n) size)
 
 -- ---- one record more
 
 module _ (es : List Entry) (low high : ℕ) where
   -- none yet: each chain is empty
-  pub links-none : (n : ℕ) (cs : List ℕ) → n ≡ length es → room n (length cs) ≡ true → ((h : ℕ) → h < chains → getD cs h 0 ≡ n) → Links es low high n n cs cs
+  pub links-none : (n : ℕ) (cs : List ℕ) → n ≡ length es → roomFor n (length cs) ≡ true → ((h : ℕ) → h < chains → getD cs h 0 ≡ n) → Links es low high n n cs cs
   links-none n cs z e f =
       let r = says-room n (length cs) .so e in
       record {
@@ -66,7 +67,7 @@ module _ (es : List Entry) (low high : ℕ) where
     unfolding nextOf
     links-out cs v c z d =
         let w = with-next cs v c (z ∙ rw d) in
-        let goes-on : (h : ℕ) → from (hashed es low high h) (length es) j ≡ from (hashed es low high h) (length es) (j + 1)
+        let goes-on : (h : ℕ) → firstFrom (hashed es low high h) (length es) j ≡ firstFrom (hashed es low high h) (length es) (j + 1)
         = λ h. from-more _ (length es) j lt (refuted (says-hashed es low high h j) (λ g. true≢false (sym (g .0) ∙ d))) in
         record { few = w .few; fits = w .fits; as-long = w .as-long; head = λ h b. w .head h b ∙ sym (goes-on h); next = w .next; behind = w .behind }
 
@@ -122,8 +123,8 @@ module _ (es : List Entry) (low high : ℕ) (before : List ℕ) where
         (λ i b. rw (getD-drop, getD-drop) (sym (c .behind (chains + n + i) (omega arith) ∙ heads .rest (chains + n + i) (omega arith)))) in
         sym ((λ j. heads-are j ++ (nexts-are j ++ rest-is j)) ∙ in-three chains n cs)
 
-    pub made : room (length es) (length before) ≡ true → Made es low high before true cs
+    pub made : roomFor (length es) (length before) ≡ true → MadeTable es low high before true cs
     made e = record { told = sym e; table = rw e table-is }
 
-  pub made-not : room (length es) (length before) ≡ false → Made es low high before false before
+  pub made-not : roomFor (length es) (length before) ≡ false → MadeTable es low high before false before
   made-not e = record { told = sym e; table = rw e refl }

@@ -6,7 +6,8 @@ use mathlib.Core.List.{List, [], _∷_, _++_}
 use Prim.Native.Nat.{ℕ, zero, suc, _+_, _*_, _-_, _%_, _<_}
 use lib.Dec.{leb, ltb, eqb}
 use lib.ListN.{length, getD, drop}
-use Rattle.record.specs.Entry.{Label, Entry, upTo}
+use Rattle.ground.specs.Lists.{upTo}
+use Rattle.record.specs.Entry.{Label, Entry}
 use Rattle.index.specs.Labels.{kindNo, nameNo, within, labelled}
 
 -- ---- sizes
@@ -16,12 +17,12 @@ abbrev pub chains : ℕ
 chains = 1024
 
 -- the most entries: their number fits two bytes
-abbrev pub most : ℕ
-most = 65534
+abbrev pub mostEntries : ℕ
+mostEntries = 65534
 
 -- a table for n entries: the first of each chain, and then the next of each entry
-abbrev pub room : ℕ → ℕ → Bool
-room n size = leb n most && leb (chains + n) size
+abbrev pub roomFor : ℕ → ℕ → Bool
+roomFor n size = leb n mostEntries && leb (chains + n) size
 
 -- the next of entry i
 abbrev pub nextIn : List ℕ → ℕ → ℕ
@@ -44,34 +45,34 @@ hashed es low high h i = within low high (kindNo es i) && eqb (hashOf (nameNo es
 -- ---- the table
 
 -- the first of the m numbers from i on that passes the test, or the number after them
-unfoldable pub firstOf : (ℕ → Bool) → ℕ → ℕ → ℕ
-firstOf p zero i = i
-firstOf p (suc m) i = cond (p i) i (firstOf p m (suc i))
+unfoldable pub firstAmong : (ℕ → Bool) → ℕ → ℕ → ℕ
+firstAmong p zero i = i
+firstAmong p (suc m) i = cond (p i) i (firstAmong p m (suc i))
 
 -- the first number from i on and below n that passes the test, or n
-unfoldable pub from : (ℕ → Bool) → ℕ → ℕ → ℕ
-from p n i = firstOf p (n - i) i
+unfoldable pub firstFrom : (ℕ → Bool) → ℕ → ℕ → ℕ
+firstFrom p n i = firstAmong p (n - i) i
 
 -- the first entry of a chain
 unfoldable pub headOf : List Entry → ℕ → ℕ → ℕ → ℕ
-headOf es low high h = from (hashed es low high h) (length es) 0
+headOf es low high h = firstFrom (hashed es low high h) (length es) 0
 
 -- the entry after i in its chain; an entry of another kind is in none
 unfoldable pub nextOf : List Entry → ℕ → ℕ → ℕ → ℕ
-nextOf es low high i = cond (within low high (kindNo es i)) (from (hashed es low high (hashOf (nameNo es i))) (length es) (i + 1)) (length es)
+nextOf es low high i = cond (within low high (kindNo es i)) (firstFrom (hashed es low high (hashOf (nameNo es i))) (length es) (i + 1)) (length es)
 
 -- the table with the chains, and what lies past them
 abbrev pub tableOf : List Entry → ℕ → ℕ → List ℕ → List ℕ
 tableOf es low high cs = upTo chains (headOf es low high) ++ (upTo (length es) (nextOf es low high) ++ drop (chains + length es) cs)
 
 -- what is made of a table: where there is room it holds the chains, and else it stays as it was
-pub record Made (es : List Entry) (low high : ℕ) (cs : List ℕ) (answer : Bool) (after : List ℕ) : Type 0 where
-  pub told : answer ≡ room (length es) (length cs)
-  pub table : after ≡ cond (room (length es) (length cs)) (tableOf es low high cs) cs
+pub record MadeTable (es : List Entry) (low high : ℕ) (cs : List ℕ) (answer : Bool) (after : List ℕ) : Type 0 where
+  pub told : answer ≡ roomFor (length es) (length cs)
+  pub table : after ≡ cond (roomFor (length es) (length cs)) (tableOf es low high cs) cs
 
 -- a table holds the chains
 pub record Chained (es : List Entry) (low high : ℕ) (cs : List ℕ) : Type 0 where
-  pub roomy : room (length es) (length cs) ≡ true
+  pub roomy : roomFor (length es) (length cs) ≡ true
   pub head : (h : ℕ) → h < chains → getD cs h 0 ≡ headOf es low high h
   pub next : (i : ℕ) → i < length es → nextIn cs i ≡ nextOf es low high i
 
@@ -87,4 +88,4 @@ walk es low high cs l (suc m) i =
 
 -- the entry that is found by any table
 unfoldable pub walkOf : List Entry → ℕ → ℕ → List ℕ → Label → ℕ
-walkOf es low high cs l = cond (room (length es) (length cs)) (walk es low high cs l (length es) (getD cs (hashOf l) 0)) (length es)
+walkOf es low high cs l = cond (roomFor (length es) (length cs)) (walk es low high cs l (length es) (getD cs (hashOf l) 0)) (length es)

@@ -5,10 +5,11 @@ use mathlib.Core.List.{List, [], _∷_}
 use Prim.Native.Nat.{ℕ}
 use lib.Dec.{leb, ltb, eqb}
 use lib.ListN.{length}
+use Rattle.ground.specs.Lists.{upTo}
 use Rattle.refusal.specs.First.{lowest}
 use Rattle.record.specs.declared.Record.{Record}
 use Rattle.record.specs.Decode.{countOf, decodeAt}
-use Rattle.record.specs.Entry.{Label, Entry, entryAt, labelNo, upTo, viewOf, entryOf}
+use Rattle.record.specs.Entry.{Label, Entry, entryAt, labelNo, viewOf, entryOf}
 
 -- ---- entries
 

@@ -8,7 +8,7 @@ ghost use Prim.Native.Nat.{_≤_, _<_};
 ghost use lib.ListN.{length};
 ghost use Rattle.record.specs.Decode.{countOf as records-in};
 ghost use Rattle.index.specs.Labels.{drawn, labelled as is-labelled};
-ghost use Rattle.index.specs.Chains.{chains as heads, room as has-room, hashFrom, Made, walk as walked, walkOf};
+ghost use Rattle.index.specs.Chains.{chains as heads, roomFor as has-room, hashFrom, MadeTable, walk as walked, walkOf};
 ghost use Rattle.index.specs.Steps.{Emptied, Links};
 use labels::kind_of;
 use labels::label_of;
@@ -89,7 +89,7 @@ fn link(text: &[u8], records: &[u8], low: u8, high: u8, chains: &mut [u16])
 
 // Chains the records of a kind from low to high, and tells whether the table had room; where it had none it stays as it was.
 pub fn chain(text: &[u8], records: &[u8], low: u8, high: u8, chains: &mut [u16]) -> bool
-    ensures { λ r. ⌜ Made (drawn (now (text .entry)) (now (records .entry))) low high (now (chains .entry)) r (now (chains .exit)) ⌝ }
+    ensures { λ r. ⌜ MadeTable (drawn (now (text .entry)) (now (records .entry))) low high (now (chains .entry)) r (now (chains .exit)) ⌝ }
 {
     let n = records.len() / SIZE;
     if !room(n, chains.len()) {

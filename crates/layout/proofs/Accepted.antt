@@ -14,10 +14,10 @@ use Rattle.layout.specs.declared.Layout.{Layout}
 use Rattle.layout.specs.declared.Point.{Point}
 use Rattle.layout.specs.declared.Circle.{Circle}
 use Rattle.layout.specs.declared.Arc.{Arc}
-use Rattle.layout.specs.Slots.{Shape, point, circle, arc, kindOf, components, sizeOf, shapesIn, slotCount, withOne, empty, mostShapes, idsEnd, stageNumber, stageDue}
+use Rattle.layout.specs.Slots.{Figure, point, circle, arc, kindOf, components, sizeOf, shapesIn, slotCount, withOne, empty, mostShapes, idsEnd, stageNumber, stageDue}
 use Rattle.layout.specs.Refusals.{reasonNumber, doneTold}
 use Rattle.layout.specs.Push.{State, state, toldIn, filled, stepped}
-use Rattle.layout.specs.Run.{Act, push, done, act, takes, run, taken, runOf, Room, AllIn}
+use Rattle.layout.specs.Run.{Act, push, done, act, takes, run, taken, runOf, RunRoom, AllIn}
 use Rattle.refusal.specs.First.{passed}
 use Rattle.refusal.proofs.Once.{answered-passed}
 use Rattle.layout.proofs.Laws.{by-kind, Can, can-be, Fits, fits-passes, done-passes}
@@ -50,7 +50,7 @@ module _ (first : State) where
     in-values : slotCount l + n * sizeOf k ≤ length (first .values)
     left : first .next + (slotCount l + n * sizeOf k) ≤ idsEnd
 
-  free-fits : (k : ShapeKind) (n : ℕ) (xs : List Shape) (s : State) → Kept first xs s → Free k (suc n) (s .layout) → Fits k (s .layout) (s .next) (length (s .ids)) (length (s .values))
+  free-fits : (k : ShapeKind) (n : ℕ) (xs : List Figure) (s : State) → Kept first xs s → Free k (suc n) (s .layout) → Fits k (s .layout) (s .next) (length (s .ids)) (length (s .values))
   free-fits k n xs s h f =
       let e = suc-mul n (sizeOf k) in
       search needs
@@ -59,15 +59,15 @@ module _ (first : State) where
   free-more k n l = by-kind (λ k. Free k (suc n) l → Free k n (withOne k l)) (λ f. search needs) (λ f. search needs) (λ f. search needs) k
 
   -- shapes of a kind, and `done` after them, with whatever follows
-  record Leg (k : ShapeKind) (shapes ys : List Shape) (s : State) : Type 0 where
+  record Leg (k : ShapeKind) (shapes ys : List Figure) (s : State) : Type 0 where
     last : State
     layout-is : last .layout ≡ stepped (more k (length shapes) (s .layout))
     keeps : Kept first (ys ++ shapes) last
     took : (rest : List Act) → taken (map push shapes ++ (done ∷ rest)) s ≡ shapes ++ taken rest last
     went : (rest : List Act) → run (map push shapes ++ (done ∷ rest)) s ≡ run rest last
 
-  module _ {X : Type 0} (make : X → Shape) (k : ShapeKind) (is : (x : X) → kindOf (make x) ≡ k) where
-    leg : (xs : List X) (ys : List Shape) (s : State) → Kept first ys s → Free k (length xs) (s .layout) → Leg k (map make xs) ys s
+  module _ {X : Type 0} (make : X → Figure) (k : ShapeKind) (is : (x : X) → kindOf (make x) ≡ k) where
+    leg : (xs : List X) (ys : List Figure) (s : State) → Kept first ys s → Free k (length xs) (s .layout) → Leg k (map make xs) ys s
     unfolding run taken
     leg [] ys s h f =
         record {
@@ -91,11 +91,11 @@ module _ (first : State) where
           keeps = rw append-assoc at (next .keeps);
           took = λ rest.
               let acts = map push (map make xs) ++ (done ∷ rest) in
-              ap (λ (z : List Shape). z ++ taken acts (act (push (make x)) s)) took-it ∙ ap (λ (z : State). make x ∷ taken acts z) filled-is ∙ ap (λ (z : List Shape). make x ∷ z) (next .took rest);
+              ap (λ (z : List Figure). z ++ taken acts (act (push (make x)) s)) took-it ∙ ap (λ (z : State). make x ∷ taken acts z) filled-is ∙ ap (λ (z : List Figure). make x ∷ z) (next .took rest);
           went = λ rest. ap (run (map push (map make xs) ++ (done ∷ rest))) filled-is ∙ next .went rest;
         }
 
-module _ (next : ℕ) (ids : List ℕ) (values : List Float) (ps : List Point) (cs : List Circle) (xs : List Arc) (room : Room (state empty next ids values) (length ps) (length cs) (length xs)) where
+module _ (next : ℕ) (ids : List ℕ) (values : List Float) (ps : List Point) (cs : List Circle) (xs : List Arc) (room : RunRoom (state empty next ids values) (length ps) (length cs) (length xs)) where
   abbrev first : State
   first = state empty next ids values
 
@@ -121,7 +121,7 @@ module _ (next : ℕ) (ids : List ℕ) (values : List Float) (ps : List Point) (
   pub all-in : AllIn first ps cs xs
   unfolding taken
   all-in = record {
-    all-taken = after-points .took _ ∙ ap (λ (z : List Shape). map point ps ++ z) (after-circles .took _ ∙ ap (λ (z : List Shape). map circle cs ++ z) (after-arcs .took [] ∙ append-nil (map arc xs)));
+    all-taken = after-points .took _ ∙ ap (λ (z : List Figure). map point ps ++ z) (after-circles .took _ ∙ ap (λ (z : List Figure). map circle cs ++ z) (after-arcs .took [] ∙ append-nil (map arc xs)));
     layout-is = ap (λ (s : State). s .layout) ends ∙ after-arcs .layout-is ∙ rw (after-circles .layout-is, after-points .layout-is, length-map ps point, length-map cs circle, length-map xs arc) (simp zero-add);
     all-laid = rw ends (kept-laid first _ _ (rw append-assoc at (after-arcs .keeps)));
   }

@@ -11,7 +11,7 @@ use Rattle.layout.specs.declared.ShapeKind.{ShapeKind}
 use Rattle.layout.specs.declared.Layout.{Layout}
 use Rattle.layout.specs.declared.Counter.{Counter}
 use Rattle.layout.specs.declared.Pushed.{Pushed}
-use Rattle.layout.specs.Slots.{Shape, point, circle, arc}
+use Rattle.layout.specs.Slots.{Figure, point, circle, arc}
 use Rattle.layout.specs.Push.{State, Fills, PushLent}
 use Rattle.layout.proofs.Layout.new.Kinds as new-kinds
 use Rattle.layout.proofs.Layout.new.Reads as new
@@ -100,7 +100,7 @@ Counted = Unit {0} × (Counter × (List ℕ × (List Float × (Unit {0} × Unit 
 abbrev counted : Counter → List ℕ → List Float → Counted
 counted c ids values = (tt, (c, (ids, (values, (tt, tt)))))
 
-lent-only : (shape : Shape) (l : Layout) (c : Counter) (ids : List ℕ) (values : List Float) (x y : Pushed) (d d′ : Counter) (i i′ : List ℕ) (v v′ : List Float)
+lent-only : (shape : Figure) (l : Layout) (c : Counter) (ids : List ℕ) (values : List Float) (x y : Pushed) (d d′ : Counter) (i i′ : List ℕ) (v v′ : List Float)
     → PushLent shape l c ids values x d i v → PushLent shape l c ids values y d′ i′ v′ → (x ≡ y) × (counted d i v ≡ counted d′ i′ v′)
 lent-only shape l c ids values x y d d′ i i′ v v′ p q =
     (by-equation (p .push .answer) (q .push .answer), λ j. counted (by-equation (p .counter-is) (q .counter-is) j) (by-equation (p .push .ids-are) (q .push .ids-are) j) (by-equation (p .push .values-are) (q .push .values-are) j))

@@ -18,12 +18,12 @@ use Rattle.layout.specs.declared.Layout.{Layout}
 use Rattle.layout.specs.declared.Point.{Point}
 use Rattle.layout.specs.declared.Circle.{Circle}
 use Rattle.layout.specs.declared.Arc.{Arc}
-use Rattle.layout.specs.Slots.{Shape, point, circle, arc, kindOf, components, sizeOf, shapesIn, slotCount, kindStart, slotOf, empty}
+use Rattle.layout.specs.Slots.{Figure, point, circle, arc, kindOf, components, sizeOf, shapesIn, slotCount, kindStart, slotOf, empty}
 use Rattle.layout.specs.Refusals.{reasonNumber, impossible}
 use Rattle.layout.specs.Push.{State, state}
 use Rattle.layout.specs.Look.{pointRead, circleRead, arcRead}
-use Rattle.layout.specs.Run.{run, allComponents, shapesOf, runOf, Room, AllIn}
-use Rattle.layout.specs.Parts.{Component, Has, slotFor, shapeAt, Reads, ReadOut, ReadBack}
+use Rattle.layout.specs.Run.{run, allComponents, shapesOf, runOf, RunRoom, AllIn}
+use Rattle.layout.specs.Parts.{Component, Has, slotFor, shapeAt, ReadsShape, ReadsBack, ReadBack}
 use Rattle.refusal.proofs.Once.{answered-passed}
 use Rattle.layout.specs.declared.PointRead.the-variants as PR
 use Rattle.layout.specs.declared.CircleRead.the-variants as CR
@@ -62,14 +62,14 @@ one-part l K.Arc K.Arc i i′ j j′ h h′ e = let a : i ≡ i′ = omega arith
 
 -- a shape that is counted is read out
 module _ (l : Layout) (values : List Float) (possible : impossible l ≡ false) (long : slotCount l ≤ length values) where
-  pub reads : (k : ShapeKind) (i : ℕ) → i < shapesIn k l → Reads k l values i
+  pub reads : (k : ShapeKind) (i : ℕ) → i < shapesIn k l → ReadsShape k l values i
   unfolding pointRead circleRead arcRead
   reads K.Point i h = answered-passed reasonNumber _ _ _ (look-passes K.Point l (length values) i possible long h)
   reads K.Circle i h = answered-passed reasonNumber _ _ _ (look-passes K.Circle l (length values) i possible long h)
   reads K.Arc i h = answered-passed reasonNumber _ _ _ (look-passes K.Arc l (length values) i possible long h)
 
 module _ (l : Layout) (values : List Float) (possible : impossible l ≡ false) (long : slotCount l ≤ length values) where
-  pub read-out : (p : Component) (x : Float) → Has l p → ReadOut l values p x
+  pub read-out : (p : Component) (x : Float) → Has l p → ReadsBack l values p x
   read-out p x h =
       let inside : slotFor l p < slotCount l = omega (arith, slot-inside (p .kind) l (p .shape) (h .0), h .1) in
       let values′ = set values (slotFor l p) x in
@@ -86,13 +86,13 @@ module _ (l : Layout) (values : List Float) (possible : impossible l ≡ false) 
 -- ---- shapes that stand one after the other
 
 -- a shape is read out where its components stand
-shape-there : (shape : Shape) (values : List Float) (at : ℕ) → ((j : ℕ) → j < sizeOf (kindOf shape) → getD values (at + j) nan ≡ getD (components shape) j nan) → shapeAt (kindOf shape) values at ≡ shape
+shape-there : (shape : Figure) (values : List Float) (at : ℕ) → ((j : ℕ) → j < sizeOf (kindOf shape) → getD values (at + j) nan ≡ getD (components shape) j nan) → shapeAt (kindOf shape) values at ≡ shape
 shape-there (point p) values at h = rw (rw add-zero at (h 0 (omega arith)), h 1 (omega arith))
 shape-there (circle c) values at h = rw (rw add-zero at (h 0 (omega arith)), h 1 (omega arith), h 2 (omega arith))
 shape-there (arc a) values at h =
     rw (rw add-zero at (h 0 (omega arith)), h 1 (omega arith), h 2 (omega arith), h 3 (omega arith), h 4 (omega arith), h 5 (omega arith))
 
-module _ {X : Type 0} (make : X → Shape) (k : ShapeKind) (is : (x : X) → kindOf (make x) ≡ k) where
+module _ {X : Type 0} (make : X → Figure) (k : ShapeKind) (is : (x : X) → kindOf (make x) ≡ k) where
   size-of : (x : X) → length (components (make x)) ≡ sizeOf k
   size-of x = components-length (make x) ∙ ap sizeOf (is x)
 
@@ -119,7 +119,7 @@ module _ {X : Type 0} (make : X → Shape) (k : ShapeKind) (is : (x : X) → kin
       there j b′ ∙ rw (e′, getD-append-add front (allComponents (map make xs) ++ rest) (i * sizeOf k + j) nan) (all-at xs rest other i j h b′)))
 
 -- ---- what was pushed is read out
-module _ (next : ℕ) (ids : List ℕ) (values : List Float) (ps : List Point) (cs : List Circle) (xs : List Arc) (room : Room (state empty next ids values) (length ps) (length cs) (length xs)) where
+module _ (next : ℕ) (ids : List ℕ) (values : List Float) (ps : List Point) (cs : List Circle) (xs : List Arc) (room : RunRoom (state empty next ids values) (length ps) (length cs) (length xs)) where
   abbrev last : State
   last = run (runOf ps cs xs) (state empty next ids values)
 
@@ -142,9 +142,9 @@ module _ (next : ℕ) (ids : List ℕ) (values : List Float) (ps : List Point) (
   grouped = all-append (map point ps) (map circle cs ++ map arc xs) ∙ rw (all-append (map circle cs) (map arc xs))
 
   -- shape i of those of a kind, between a front and a rest
-  read-one : {X : Type 0} (make : X → Shape) (k : ShapeKind) → ((x : X) → kindOf (make x) ≡ k) → (front rest : List Float) (ys : List X)
+  read-one : {X : Type 0} (make : X → Figure) (k : ShapeKind) → ((x : X) → kindOf (make x) ≡ k) → (front rest : List Float) (ys : List X)
       → allComponents (shapesOf ps cs xs) ≡ front ++ (allComponents (map make ys) ++ rest) → length front ≡ kindStart k l → length ys ≡ shapesIn k l
-      → (i : ℕ) (other : X) → i < length ys → Reads k l (last .values) i × (shapeAt k (last .values) (slotOf k l i) ≡ make (getD ys i other))
+      → (i : ℕ) (other : X) → i < length ys → ReadsShape k l (last .values) i × (shapeAt k (last .values) (slotOf k l i) ≡ make (getD ys i other))
   read-one make k is front rest ys e f n i other h =
       let c : i < shapesIn k l = omega arith in
       let there : (j : ℕ) → j < sizeOf k → getD (last .values) (slotOf k l i + j) nan ≡ getD (front ++ (allComponents (map make ys) ++ rest)) (slotOf k l i + j) nan

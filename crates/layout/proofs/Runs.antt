@@ -11,36 +11,36 @@ use lib.Ieee.{Float, nan}
 use Rattle.layout.specs.declared.ShapeKind.{ShapeKind}
 use Rattle.layout.specs.declared.ShapeKind.the-variants as K
 use Rattle.layout.specs.declared.Layout.{Layout}
-use Rattle.layout.specs.Slots.{Shape, point, circle, arc, kindOf, components, sizeOf, shapesIn, slotCount, withOne, empty}
+use Rattle.layout.specs.Slots.{Figure, point, circle, arc, kindOf, components, sizeOf, shapesIn, slotCount, withOne, empty}
 use Rattle.layout.specs.Refusals.{reasonNumber, doneTold}
 use Rattle.layout.specs.Push.{State, state, over, onward, toldIn, filled, stepped}
-use Rattle.layout.specs.Run.{Act, push, done, act, takes, run, taken, allComponents, howMany, Laid}
+use Rattle.layout.specs.Run.{Act, push, done, act, takes, run, taken, allComponents, howManyOf, Laid}
 use Rattle.layout.proofs.Onward.{length-onward, getD-onward, onward-add, over-front}
 use Rattle.refusal.proofs.Once.{answered-pair}
 use Rattle.layout.proofs.Laws.{by-kind, Fits, fits}
 
 -- ---- shapes
 
-pub components-length : (shape : Shape) → length (components shape) ≡ sizeOf (kindOf shape)
+pub components-length : (shape : Figure) → length (components shape) ≡ sizeOf (kindOf shape)
 components-length (point p) = refl
 components-length (circle c) = refl
 components-length (arc a) = refl
 
-pub all-append : (xs ys : List Shape) → allComponents (xs ++ ys) ≡ allComponents xs ++ allComponents ys
+pub all-append : (xs ys : List Figure) → allComponents (xs ++ ys) ≡ allComponents xs ++ allComponents ys
 all-append [] ys = refl
 all-append (x ∷ xs) ys = rw (all-append xs ys) (sym (append-assoc (components x) (allComponents xs) (allComponents ys)))
 
-pub many-append : (k : ShapeKind) (xs ys : List Shape) → howMany k (xs ++ ys) ≡ howMany k xs + howMany k ys
+pub many-append : (k : ShapeKind) (xs ys : List Figure) → howManyOf k (xs ++ ys) ≡ howManyOf k xs + howManyOf k ys
 many-append k [] ys = omega arith
 many-append k (x ∷ xs) ys = rw (many-append k xs ys) (omega arith)
 
 pub slots-more : (k : ShapeKind) (l : Layout) → slotCount (withOne k l) ≡ slotCount l + sizeOf k
 slots-more k l = by-kind (λ k. slotCount (withOne k l) ≡ slotCount l + sizeOf k) (omega arith) (omega arith) (omega arith) k
 
-count-more : (k : ShapeKind) (shape : Shape) (l : Layout) → shapesIn k (withOne (kindOf shape) l) ≡ shapesIn k l + howMany k (shape ∷ [])
-count-more k (point p) l = by-kind (λ k. shapesIn k (withOne K.Point l) ≡ shapesIn k l + howMany k (point p ∷ [])) refl (omega arith) (omega arith) k
-count-more k (circle c) l = by-kind (λ k. shapesIn k (withOne K.Circle l) ≡ shapesIn k l + howMany k (circle c ∷ [])) (omega arith) refl (omega arith) k
-count-more k (arc a) l = by-kind (λ k. shapesIn k (withOne K.Arc l) ≡ shapesIn k l + howMany k (arc a ∷ [])) (omega arith) (omega arith) refl k
+count-more : (k : ShapeKind) (shape : Figure) (l : Layout) → shapesIn k (withOne (kindOf shape) l) ≡ shapesIn k l + howManyOf k (shape ∷ [])
+count-more k (point p) l = by-kind (λ k. shapesIn k (withOne K.Point l) ≡ shapesIn k l + howManyOf k (point p ∷ [])) refl (omega arith) (omega arith) k
+count-more k (circle c) l = by-kind (λ k. shapesIn k (withOne K.Circle l) ≡ shapesIn k l + howManyOf k (circle c ∷ [])) (omega arith) refl (omega arith) k
+count-more k (arc a) l = by-kind (λ k. shapesIn k (withOne K.Arc l) ≡ shapesIn k l + howManyOf k (arc a ∷ [])) (omega arith) (omega arith) refl k
 
 count-stepped : (k : ShapeKind) (l : Layout) → shapesIn k (stepped l) ≡ shapesIn k l
 count-stepped k l = by-kind (λ k. shapesIn k (stepped l) ≡ shapesIn k l) refl refl refl k
@@ -48,8 +48,8 @@ count-stepped k l = by-kind (λ k. shapesIn k (stepped l) ≡ shapesIn k l) refl
 -- ---- what a run keeps
 
 -- the slices in one piece: the ids and the components so far, and the rest as it was
-pub record Kept (first : State) (shapes : List Shape) (s : State) : Type 0 where
-  pub counts : (k : ShapeKind) → shapesIn k (s .layout) ≡ howMany k shapes
+pub record Kept (first : State) (shapes : List Figure) (s : State) : Type 0 where
+  pub counts : (k : ShapeKind) → shapesIn k (s .layout) ≡ howManyOf k shapes
   pub slots : length (allComponents shapes) ≡ slotCount (s .layout)
   pub next-is : s .next ≡ first .next + length (allComponents shapes)
   pub ids-are : s .ids ≡ onward (first .next) (length (allComponents shapes)) ++ drop (length (allComponents shapes)) (first .ids)
@@ -64,7 +64,7 @@ module _ (first : State) where
       ∙ rw (length-append gs vs, onward-add (first .next) (length gs) (length vs), length-onward (first .next + length gs) (length vs)) refl
 
   -- a push that is taken
-  pub kept-filled : (shape : Shape) (xs : List Shape) (s : State) → Kept first xs s → Fits (kindOf shape) (s .layout) (s .next) (length (s .ids)) (length (s .values))
+  pub kept-filled : (shape : Figure) (xs : List Figure) (s : State) → Kept first xs s → Fits (kindOf shape) (s .layout) (s .next) (length (s .ids)) (length (s .values))
       → Kept first (xs ++ (shape ∷ [])) (filled (kindOf shape) (components shape) s)
   kept-filled shape xs s h f =
       let vs = components shape in
@@ -81,24 +81,24 @@ module _ (first : State) where
         values-length = simp (length-append, length-take, length-drop) (omega (arith, n, f .in-values, h .values-length));
       }
 
-  kept-stepped : (xs : List Shape) (s : State) → Kept first xs s → Kept first xs (state (stepped (s .layout)) (s .next) (s .ids) (s .values))
+  kept-stepped : (xs : List Figure) (s : State) → Kept first xs s → Kept first xs (state (stepped (s .layout)) (s .next) (s .ids) (s .values))
   kept-stepped xs s h =
-      let c : (k : ShapeKind) → shapesIn k (stepped (s .layout)) ≡ howMany k xs = λ k. count-stepped k (s .layout) ∙ h .counts k in
+      let c : (k : ShapeKind) → shapesIn k (stepped (s .layout)) ≡ howManyOf k xs = λ k. count-stepped k (s .layout) ∙ h .counts k in
       search needs
 
-  pub kept-act : (a : Act) (xs : List Shape) (s : State) → Kept first xs s → Kept first (xs ++ takes a s) (act a s)
+  pub kept-act : (a : Act) (xs : List Figure) (s : State) → Kept first xs s → Kept first (xs ++ takes a s) (act a s)
   kept-act (push shape) xs s h =
       answered-pair reasonNumber (λ ys z. Kept first (xs ++ ys) z) _ _ (toldIn (kindOf shape) s) _ _ (λ r. rw append-nil h) (λ c. kept-filled shape xs s h (fits _ _ _ _ _ c))
   kept-act done xs s h =
       answered-pair reasonNumber (λ (l m : Layout). Kept first (xs ++ []) (state l (s .next) (s .ids) (s .values))) _ (λ r. s .layout) (doneTold (s .layout)) _ (s .layout) (λ r. rw append-nil h) (λ c. rw append-nil (kept-stepped xs s h))
 
-  pub kept-run : (acts : List Act) (xs : List Shape) (s : State) → Kept first xs s → Kept first (xs ++ taken acts s) (run acts s)
+  pub kept-run : (acts : List Act) (xs : List Figure) (s : State) → Kept first xs s → Kept first (xs ++ taken acts s) (run acts s)
   unfolding run taken
   kept-run [] xs s h = rw append-nil h
   kept-run (a ∷ acts) xs s h = rw (← append-assoc) (kept-run acts (xs ++ takes a s) (act a s) (kept-act a xs s h))
 
   -- what is kept, slot by slot
-  pub kept-laid : (xs : List Shape) (s : State) → Kept first xs s → Laid first xs s
+  pub kept-laid : (xs : List Figure) (s : State) → Kept first xs s → Laid first xs s
   kept-laid xs s h =
       let gs = allComponents xs in
       let ids-at : (i : ℕ) → i < slotCount (s .layout) → getD (s .ids) i 0 ≡ first .next + i

@@ -13,7 +13,7 @@ use Rattle.layout.specs.declared.Arc.{Arc}
 use Rattle.layout.specs.declared.PointRead.the-variants as PR
 use Rattle.layout.specs.declared.CircleRead.the-variants as CR
 use Rattle.layout.specs.declared.ArcRead.the-variants as AR
-use Rattle.layout.specs.Slots.{Shape, point, circle, arc, components, sizeOf, shapesIn, slotCount, slotOf}
+use Rattle.layout.specs.Slots.{Figure, point, circle, arc, components, sizeOf, shapesIn, slotCount, slotOf}
 use Rattle.layout.specs.Look.{pointAt, circleAt, arcAt, pointRead, circleRead, arcRead}
 use Rattle.layout.specs.Push.{State}
 
@@ -32,7 +32,7 @@ abbrev pub slotFor : Layout → Component → ℕ
 slotFor l p = slotOf (p .kind) l (p .shape) + p .place
 
 -- the shape of a kind that is read out from a slot on
-abbrev pub shapeAt : ShapeKind → List Float → ℕ → Shape
+abbrev pub shapeAt : ShapeKind → List Float → ℕ → Figure
 shapeAt K.Point values at = point (pointAt values at)
 shapeAt K.Circle values at = circle (circleAt values at)
 shapeAt K.Arc values at = arc (arcAt values at)
@@ -42,15 +42,15 @@ abbrev pub partRead : Layout → List Float → Component → Float
 partRead l values p = getD (components (shapeAt (p .kind) values (slotOf (p .kind) l (p .shape)))) (p .place) nan
 
 -- the readout of shape i of a kind finds it there
-abbrev pub Reads : ShapeKind → Layout → List Float → ℕ → Type 0
-Reads K.Point l values i = pointRead l values i ≡ PR.Found (pointAt values (slotOf K.Point l i))
-Reads K.Circle l values i = circleRead l values i ≡ CR.Found (circleAt values (slotOf K.Circle l i))
-Reads K.Arc l values i = arcRead l values i ≡ AR.Found (arcAt values (slotOf K.Arc l i))
+abbrev pub ReadsShape : ShapeKind → Layout → List Float → ℕ → Type 0
+ReadsShape K.Point l values i = pointRead l values i ≡ PR.Found (pointAt values (slotOf K.Point l i))
+ReadsShape K.Circle l values i = circleRead l values i ≡ CR.Found (circleAt values (slotOf K.Circle l i))
+ReadsShape K.Arc l values i = arcRead l values i ≡ AR.Found (arcAt values (slotOf K.Arc l i))
 
 -- a value put in a part's slot is read out as that part and as no other
-pub record ReadOut (l : Layout) (values : List Float) (p : Component) (x : Float) : Type 0 where
+pub record ReadsBack (l : Layout) (values : List Float) (p : Component) (x : Float) : Type 0 where
   pub inside : slotFor l p < slotCount l
-  pub reads : (k : ShapeKind) (i : ℕ) → i < shapesIn k l → Reads k l (set values (slotFor l p) x) i
+  pub reads : (k : ShapeKind) (i : ℕ) → i < shapesIn k l → ReadsShape k l (set values (slotFor l p) x) i
   pub own : partRead l (set values (slotFor l p) x) p ≡ x
   pub others : (q : Component) → Has l q → (q ≡ p → ⊥) → partRead l (set values (slotFor l p) x) q ≡ partRead l values q
 

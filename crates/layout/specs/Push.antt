@@ -14,7 +14,7 @@ use Rattle.layout.specs.declared.Pushed.{Pushed}
 use Rattle.layout.specs.declared.Pushed.the-variants as P
 use Rattle.layout.specs.declared.Stepped.{Stepped}
 use Rattle.layout.specs.declared.Stepped.the-variants as S
-use Rattle.layout.specs.Slots.{Shape, kindOf, components, slotCount, withOne}
+use Rattle.layout.specs.Slots.{Figure, kindOf, components, slotCount, withOne}
 use Rattle.layout.specs.Refusals.{Reason, reasonNumber, pushTold, doneTold}
 
 -- a layout, the next id, and the two slices
@@ -61,15 +61,15 @@ pub record Fills (k : ShapeKind) (vs : List Float) (s : State) (r : Pushed) (ids
   pub values-are : values ≡ pushed k vs s .values
 
 -- a push of a shape
-abbrev pub Push : Shape → State → Pushed → List ℕ → List Float → Type 0
+abbrev pub Push : Figure → State → Pushed → List ℕ → List Float → Type 0
 Push shape = Fills (kindOf shape) (components shape)
 
 -- the state after a push of a shape
-abbrev pub after : Shape → State → State
+abbrev pub after : Figure → State → State
 after shape = pushed (kindOf shape) (components shape)
 
 -- a push with the counter lent: the push at the counter's number, and the counter after it
-pub record PushLent (shape : Shape) (l : Layout) (c : Counter) (ids : List ℕ) (values : List Float) (r : Pushed) (c′ : Counter) (ids′ : List ℕ) (values′ : List Float) : Type 0 where
+pub record PushLent (shape : Figure) (l : Layout) (c : Counter) (ids : List ℕ) (values : List Float) (r : Pushed) (c′ : Counter) (ids′ : List ℕ) (values′ : List Float) : Type 0 where
   pub push : Push shape (state l (c .next) ids values) r ids′ values′
   pub counter-is : c′ ≡ record { next = after shape (state l (c .next) ids values) .next }
 

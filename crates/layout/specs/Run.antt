@@ -13,7 +13,7 @@ use Rattle.layout.specs.declared.ShapeKind.the-variants as K
 use Rattle.layout.specs.declared.Point.{Point}
 use Rattle.layout.specs.declared.Circle.{Circle}
 use Rattle.layout.specs.declared.Arc.{Arc}
-use Rattle.layout.specs.Slots.{Shape, point, circle, arc, kindOf, components, sizeOf, shapesIn, slotCount, mostShapes, idsEnd, stageDue}
+use Rattle.layout.specs.Slots.{Figure, point, circle, arc, kindOf, components, sizeOf, shapesIn, slotCount, mostShapes, idsEnd, stageDue}
 use Rattle.layout.specs.Refusals.{reasonNumber, doneTold}
 use Rattle.layout.specs.Push.{State, state, toldIn, after, stepped}
 
@@ -21,7 +21,7 @@ use Rattle.layout.specs.Push.{State, state, toldIn, after, stepped}
 
 -- a push of a shape, or `done`
 pub data Act : Type 0 where
-  push : Shape → Act
+  push : Figure → Act
   done : Act
 
 -- the state after an act: a refused one changes nothing
@@ -30,7 +30,7 @@ act (push shape) s = after shape s
 act done s = state (answered reasonNumber (λ r. s .layout) (doneTold (s .layout)) (stepped (s .layout))) (s .next) (s .ids) (s .values)
 
 -- the shapes that an act adds: none where it is refused
-abbrev pub takes : Act → State → List Shape
+abbrev pub takes : Act → State → List Figure
 takes (push shape) s = answered reasonNumber (λ r. []) (toldIn (kindOf shape) s) (shape ∷ [])
 takes done s = []
 
@@ -40,29 +40,29 @@ run [] s = s
 run (a ∷ acts) s = run acts (act a s)
 
 -- the shapes that a run adds, in order
-unfoldable pub taken : List Act → State → List Shape
+unfoldable pub taken : List Act → State → List Figure
 taken [] s = []
 taken (a ∷ acts) s = takes a s ++ taken acts (act a s)
 
 -- ---- what a run leaves
 
 -- the components of all shapes, in order
-abbrev pub allComponents : List Shape → List Float
+abbrev pub allComponents : List Figure → List Float
 allComponents [] = []
 allComponents (shape ∷ shapes) = components shape ++ allComponents shapes
 
 -- how many of the shapes are of a kind
-abbrev pub howMany : ShapeKind → List Shape → ℕ
-howMany k [] = 0
-howMany k (shape ∷ shapes) = cond (eqb (stageDue k) (stageDue (kindOf shape))) 1 0 + howMany k shapes
+abbrev pub howManyOf : ShapeKind → List Figure → ℕ
+howManyOf k [] = 0
+howManyOf k (shape ∷ shapes) = cond (eqb (stageDue k) (stageDue (kindOf shape))) 1 0 + howManyOf k shapes
 
 -- no id stands at two of the first n slots
 abbrev pub Distinct : ℕ → List ℕ → Type 0
 Distinct n ids = (i j : ℕ) → i < n → j < n → getD ids i 0 ≡ getD ids j 0 → i ≡ j
 
 -- what the state is after shapes were pushed: each slot holds its id and its component, and the rest is untouched
-pub record Laid (first : State) (shapes : List Shape) (last : State) : Type 0 where
-  pub counts : (k : ShapeKind) → shapesIn k (last .layout) ≡ howMany k shapes
+pub record Laid (first : State) (shapes : List Figure) (last : State) : Type 0 where
+  pub counts : (k : ShapeKind) → shapesIn k (last .layout) ≡ howManyOf k shapes
   pub slots : slotCount (last .layout) ≡ length (allComponents shapes)
   pub next-is : last .next ≡ first .next + slotCount (last .layout)
   pub id-at : (i : ℕ) → i < slotCount (last .layout) → getD (last .ids) i 0 ≡ first .next + i
@@ -76,7 +76,7 @@ pub record Laid (first : State) (shapes : List Shape) (last : State) : Type 0 wh
 -- ---- P points, C circles and A arcs
 
 -- points, then circles, then arcs
-abbrev pub shapesOf : List Point → List Circle → List Arc → List Shape
+abbrev pub shapesOf : List Point → List Circle → List Arc → List Figure
 shapesOf ps cs xs = map point ps ++ (map circle cs ++ map arc xs)
 
 -- the run that pushes them, with `done` after each kind
@@ -88,7 +88,7 @@ abbrev pub slotsFor : ℕ → ℕ → ℕ → ℕ
 slotsFor p c a = p * sizeOf K.Point + c * sizeOf K.Circle + a * sizeOf K.Arc
 
 -- there is room, and there are ids enough
-pub record Room (first : State) (p c a : ℕ) : Type 0 where
+pub record RunRoom (first : State) (p c a : ℕ) : Type 0 where
   pub points : p ≤ mostShapes
   pub circles : c ≤ mostShapes
   pub arcs : a ≤ mostShapes

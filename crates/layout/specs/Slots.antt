@@ -14,19 +14,19 @@ use Rattle.layout.specs.declared.Arc.{Arc}
 -- ---- shapes
 
 -- a shape of some kind
-pub data Shape : Type 0 where
-  point : Point → Shape
-  circle : Circle → Shape
-  arc : Arc → Shape
+pub data Figure : Type 0 where
+  point : Point → Figure
+  circle : Circle → Figure
+  arc : Arc → Figure
 
 -- its kind
-abbrev pub kindOf : Shape → ShapeKind
+abbrev pub kindOf : Figure → ShapeKind
 kindOf (point p) = K.Point
 kindOf (circle c) = K.Circle
 kindOf (arc a) = K.Arc
 
 -- its components, in the order of its slots
-abbrev pub components : Shape → List Float
+abbrev pub components : Figure → List Float
 components (point p) = p .x ∷ p .y ∷ []
 components (circle c) = c .center .x ∷ c .center .y ∷ c .radius ∷ []
 components (arc a) = a .a .x ∷ a .a .y ∷ a .b .x ∷ a .b .y ∷ a .center .x ∷ a .center .y ∷ []

@@ -6,16 +6,17 @@ use native.Mathlib.Omega.{arith}
 use lib.ListN.{length, take, drop, length-drop, drop-of-length-le}
 use lib.Seq.{take-all, take-nil}
 use borrow.Author.Tests.{eq-eqb, ne-eqb}
+use Rattle.ground.specs.Lists.{upTo}
 use Rattle.ground.specs.Words.{bytes}
 use Rattle.refusal.specs.declared.Refusal.{Refusal}
 use Rattle.print.specs.Print.{hexOf, decimalOf}
 use Rattle.record.specs.declared.View.{View}
 use Rattle.record.specs.declared.Record.{Record}
 use Rattle.rail.proofs.Spaced.{spaced-append}
-use Rattle.record.specs.Kinds.{kindAt, none, pair}
-use Rattle.record.specs.Entry.{viewOf, named, upTo, entryOf}
-use Rattle.record.proofs.UpTo.{up-to-more}
-use Rattle.lines.specs.declared.words.Part.{Part}
+use Rattle.record.specs.Kinds.{kindAt, numberless, pair}
+use Rattle.record.specs.Entry.{viewOf, named, entryOf}
+use Rattle.ground.proofs.UpTo.{up-to-more}
+use Rattle.lines.specs.declared.words.Stretch.{Stretch}
 use Rattle.rail.specs.Words.{newline, spaced}
 use Rattle.lines.specs.Lines.{goodLine, refusedLine, thirdWord, thirdOf, numbersOf, lineOf}
 use Rattle.lines.specs.Steps.{Lies}
@@ -44,7 +45,7 @@ whole size start len h =
     record { ordered = omega arith; inside = omega arith; is = λ text f. rw e }
 
 -- the label that the part is
-pub label-is : (text : List ℕ) (r : Record) (q : ℕ) (v : View) (l : Part) → v ≡ viewOf r q → Lies (length text) (v .start) (v .len) l
+pub label-is : (text : List ℕ) (r : Record) (q : ℕ) (v : View) (l : Stretch) → v ≡ viewOf r q → Lies (length text) (v .start) (v .len) l
     → spaced (take (l .end - l .start) (drop (l .start) text) ∷ []) ≡ spaced (named text r q ∷ [])
 label-is text r q v l e h = rw (h .is text refl, e)
 
@@ -71,15 +72,15 @@ refused-is r = two-parts (bytes "refused") (decimalOf (r .number) ∷ []) (decim
 
 -- the numbers, by their sort
 module _ (n x y : ℕ) where
-  pub no-number : n ≡ none → newline ≡ spaced (numbersOf n x y) ++ newline
+  pub no-number : n ≡ numberless → newline ≡ spaced (numbersOf n x y) ++ newline
   unfolding spaced
-  no-number e = rw (eq-eqb n none e)
+  no-number e = rw (eq-eqb n numberless e)
 
-  pub two-numbers : (n ≡ none → ⊥) → n ≡ pair → spaced (hexOf x ∷ []) ++ spaced (hexOf y ∷ []) ++ newline ≡ spaced (numbersOf n x y) ++ newline
-  two-numbers f e = rw (ne-eqb n none f, eq-eqb n pair e) (two-parts [] (hexOf x ∷ []) (hexOf y ∷ []) newline)
+  pub two-numbers : (n ≡ numberless → ⊥) → n ≡ pair → spaced (hexOf x ∷ []) ++ spaced (hexOf y ∷ []) ++ newline ≡ spaced (numbersOf n x y) ++ newline
+  two-numbers f e = rw (ne-eqb n numberless f, eq-eqb n pair e) (two-parts [] (hexOf x ∷ []) (hexOf y ∷ []) newline)
 
-  pub one-number : (n ≡ none → ⊥) → (n ≡ pair → ⊥) → spaced (hexOf x ∷ []) ++ newline ≡ spaced (numbersOf n x y) ++ newline
-  one-number f e = rw (ne-eqb n none f, ne-eqb n pair e)
+  pub one-number : (n ≡ numberless → ⊥) → (n ≡ pair → ⊥) → spaced (hexOf x ∷ []) ++ newline ≡ spaced (numbersOf n x y) ++ newline
+  one-number f e = rw (ne-eqb n numberless f, ne-eqb n pair e)
 
 -- the word of the third byte, by the kind
 module _ (kind third x y sort thirds : ℕ) (s : sort ≡ kindAt kind .number) (t : thirds ≡ kindAt kind .thirds) where

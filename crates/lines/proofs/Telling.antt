@@ -7,10 +7,11 @@ use native.Mathlib.Omega.{arith}
 use lib.ListN.{getD}
 use lib.Ieee.{Float, binary64, toBits}
 use borrow.Author.Tests.{lt-ltb, le-ltb}
+use Rattle.ground.proofs.UpTo.{map-up-to}
+use Rattle.ground.specs.Lists.{upTo}
 use Rattle.ground.specs.Words.{bytes}
 use Rattle.print.specs.Print.{decimalOf, hexOf}
 use Rattle.record.specs.Kinds.{kindAt}
-use Rattle.record.specs.Entry.{upTo}
 use Rattle.row.specs.declared.Row.{Row as Held}
 use Rattle.row.specs.Row.{meant, mostIds, idsIn}
 use Rattle.rail.specs.Words.{newline, spaced}
@@ -43,10 +44,6 @@ ids-most r = elim (decLe (r .count) mostIds) [
   | yes h ↦ rw (le-ltb mostIds (r .count) h) h
   | no f ↦ rw (lt-ltb mostIds (r .count) (omega arith)) (omega arith)
 ]
-
-map-up-to : {A B : Type 0} (g : A → B) (n : ℕ) (f : ℕ → A) → map g (upTo n f) ≡ upTo n (λ q. g (f q))
-map-up-to g zero f = refl
-map-up-to g (suc n) f = ap (λ l. g (f zero) ∷ l) (map-up-to g n (λ k. f (suc k)))
 
 pub row-is : (r : Held)
     → bytes "row " ++ (decimalOf (r .kind) ++ spaced (upTo (idsIn r) (λ q. decimalOf (getD (r .ids) q 0))))

@@ -6,7 +6,7 @@ use lib.Dec.{eqb}
 use Rattle.ground.specs.Words.{bytes}
 use Rattle.refusal.specs.declared.Refusal.{Refusal}
 use Rattle.print.specs.Print.{decimalOf, hexOf}
-use Rattle.record.specs.Kinds.{kindAt, none, angle, pair}
+use Rattle.record.specs.Kinds.{kindAt, numberless, angle, pair}
 use Rattle.record.specs.Entry.{Entry}
 use Rattle.rail.specs.Words.{lineWith}
 use Rattle.reader.specs.declared.Reading.{Reading}
@@ -43,7 +43,7 @@ thirdOf kind third = cond (eqb (kindAt kind .thirds) 0) [] (thirdWord (kindAt ki
 
 -- the bits of each number that a sort of number has
 abbrev pub numbersOf : ℕ → ℕ → ℕ → List (List ℕ)
-numbersOf number x y = cond (eqb number none) [] (hexOf x ∷ cond (eqb number pair) (hexOf y ∷ []) [])
+numbersOf number x y = cond (eqb number numberless) [] (hexOf x ∷ cond (eqb number pair) (hexOf y ∷ []) [])
 
 -- the kind, the labels, x, y, deg or rad if any, and the bits of each number that the kind has
 unfoldable pub lineOf : Entry → List ℕ

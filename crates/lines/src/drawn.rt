@@ -2,11 +2,11 @@
 ghost use mathlib.Core.Path.{_≡_};
 ghost use mathlib.Core.List.{[], _∷_, _++_};
 ghost use lib.ListN.{getD};
+ghost use Rattle.ground.specs.Lists.{upTo};
 ghost use Rattle.print.specs.Print.{decimalOf};
 ghost use Rattle.rail.specs.Words.{spaced};
 ghost use Rattle.rail.specs.Rail.{Prints};
 ghost use Rattle.rail.specs.Steps.{Adds};
-ghost use Rattle.record.specs.Entry.{upTo};
 ghost use Rattle.row.specs.Row.{idsIn, meant};
 ghost use Rattle.lines.specs.Drawn.{tallyLine, checkedLine, loweredLine, slotLine, rowLine};
 use super::words;

@@ -4,9 +4,10 @@ ghost use mathlib.Core.Bool.{cond};
 ghost use mathlib.Core.List.{[], _∷_, _++_};
 ghost use lib.Dec.{eqb};
 ghost use lib.ListN.{getD};
+ghost use Rattle.ground.specs.Lists.{upTo};
 ghost use Rattle.print.specs.Print.{decimalOf};
 ghost use Rattle.record.specs.Kinds.{kindAt};
-ghost use Rattle.record.specs.Entry.{noView, named, upTo, entryOf};
+ghost use Rattle.record.specs.Entry.{noView, named, entryOf};
 ghost use Rattle.rail.specs.Words.{newline, spaced};
 ghost use Rattle.lines.specs.Lines.{firstWord, thirdWord, thirdOf, numbersOf, goodLine, refusedLine, firstLine, lineOf};
 ghost use Rattle.rail.specs.Steps.{Adds};
@@ -24,7 +25,7 @@ use refusal::Refusal;
 const FIRST: u8 = 1;
 
 // A part of a text, by its start and its end.
-struct Part {
+struct Stretch {
     start: usize,
     end: usize,
 }
@@ -80,19 +81,19 @@ pub(crate) fn reading_line(reading: Reading, buf: &mut [u8], write: bool, p: Pla
 }
 
 // What lies inside a text of a size, of the part that starts at a place and has a length.
-fn inside(size: usize, start: usize, len: usize) -> Part
+fn inside(size: usize, start: usize, len: usize) -> Stretch
     ensures { λ r. ⌜ Lies size start len r ⌝ }
 {
     if size <= start {
-        return Part {
+        return Stretch {
             start: size,
             end: size,
         };
     }
     if size - start <= len {
-        return Part { start, end: size };
+        return Stretch { start, end: size };
     }
-    Part {
+    Stretch {
         start,
         end: start + len,
     }

@@ -14,7 +14,7 @@ use Rattle.record.specs.Sound.{spelledTest, soundTest}
 use Rattle.record.specs.Formed.{malformedTest}
 use Rattle.index.specs.Labels.{labelled, lowestOr}
 use Rattle.drawing.specs.Check as check
-use check.{twice, namedAt, named, guessAt, guessed, wrongPlace, wrongLabelTest, noSuchPartTest, withoutGuessTest, checkOf, countBelow}
+use check.{twice, namedAt, someNamed, guessAt, guessed, wrongPlace, wrongLabelTest, noSuchPartTest, withoutGuessTest, checkOf, countBelow}
 use Rattle.lowering.specs.declared.Lowered.{Lowered}
 use Rattle.lowering.specs.declared.Lowered.the-variants.{Good, Refused}
 use Rattle.lowering.specs.Slots.{Slot, slots, guessOf, numberFor}
@@ -101,5 +101,5 @@ pub examples : (rowsOf plate 100 ≡ rows)
     × (encodeRow (row 4 2 (110 ∷ []) 92) ≡ written)
     × (numbers plate ≡ 0 ∷ 1 ∷ 2 ∷ 3 ∷ 4 ∷ 5 ∷ 6 ∷ 7 ∷ 8 ∷ 9 ∷ 10 ∷ [])
     × (answers ≡ good 111 ∷ good 4294967295 ∷ Refused (refusal 36 0) ∷ Refused (refusal 37 0) ∷ Refused (refusal 37 0) ∷ Refused (refusal 38 0) ∷ Refused (refusal 31 4) ∷ [])
-unfolding slots namedIds rowsOf encodeRow bytesOf guessOf lackOf lowerOf lowestOr lowest first once answered labelled twice namedAt named guessAt guessed wrongPlace wrongLabelTest noSuchPartTest withoutGuessTest checkOf countBelow malformedTest soundTest spelledTest runTo wordAt byteOn labelAt labelOn suffixedOn
+unfolding slots namedIds rowsOf encodeRow bytesOf guessOf lackOf lowerOf lowestOr lowest first once answered labelled twice namedAt someNamed guessAt guessed wrongPlace wrongLabelTest noSuchPartTest withoutGuessTest checkOf countBelow malformedTest soundTest spelledTest runTo wordAt byteOn labelAt labelOn suffixedOn
 examples = (refl, refl, refl, refl)

@@ -134,14 +134,14 @@ rulesBefore es n = countBelow (kindNo es) firstRule lastRule n
 -- ---- readout
 
 -- the readout of the values vs hands back this for the shape that record i declares, by its number among those of its kind
-abbrev pub HandsBack : List Entry → List Float → ℕ → layout.Shape → Type 0
+abbrev pub HandsBack : List Entry → List Float → ℕ → layout.Figure → Type 0
 HandsBack es vs i (layout.point p) = pointRead (layoutOf es) vs (before point es i) ≡ PR.Found p
 HandsBack es vs i (layout.circle c) = circleRead (layoutOf es) vs (before circle es i) ≡ CR.Found c
 HandsBack es vs i (layout.arc a) = arcRead (layoutOf es) vs (before arc es i) ≡ AR.Found a
 
 -- v is read out as the component t of the shape s that record i declares: it stands in the field that t is named for
 pub record ReadAs (es : List Entry) (vs : List Float) (i : ℕ) (s : Shape) (t : Slot) (v : Float) : Type 0 where
-  pub shape : layout.Shape
+  pub shape : layout.Figure
   pub of-kind : layout.kindOf shape ≡ kindFor s
   pub handed-back : HandsBack es vs i shape
   pub field-is : fieldOf shape t ≡ v

@@ -9,7 +9,7 @@ use Rattle.layout.specs.declared.ShapeKind.the-variants as K
 use Rattle.layout.specs.declared.PointVars.{PointVars}
 use Rattle.layout.specs.declared.CircleVars.{CircleVars}
 use Rattle.layout.specs.declared.ArcVars.{ArcVars}
-use Rattle.layout.specs.Slots.{Shape, point, circle, arc}
+use Rattle.layout.specs.Slots.{Figure, point, circle, arc}
 use Rattle.index.specs.Labels.{same}
 use Rattle.lowering.specs.Slots.{Slot, y-axis}
 
@@ -31,7 +31,7 @@ inArc ax ay bx by x y t =
 -- ---- in a shape and in its ids
 
 -- the field of a shape that a component's suffix and axis stand for
-abbrev pub fieldOf : Shape → Slot → Float
+abbrev pub fieldOf : Figure → Slot → Float
 fieldOf (point p) t = onAxis (p .x) (p .y) (t .axis)
 fieldOf (circle c) t = inCircle (c .center .x) (c .center .y) (c .radius) t
 fieldOf (arc a) t = inArc (a .a .x) (a .a .y) (a .b .x) (a .b .y) (a .center .x) (a .center .y) t

@@ -24,9 +24,9 @@ widthOf [] = 0
 widthOf (c ∷ cs) = size (c .shape)
 
 -- how many ids label place q of a rule comes to: one in kinds 4 and 18, and else those of its shape
-abbrev pub idsAt : ℕ → ℕ → ℕ
-idsAt kind q = cond (eqb kind fixComponent || eqb kind fixCenter) 1 (widthOf (needAt kind q))
+abbrev pub widthAt : ℕ → ℕ → ℕ
+widthAt kind q = cond (eqb kind fixComponent || eqb kind fixCenter) 1 (widthOf (needAt kind q))
 
 -- how many ids the row of a kind has
 abbrev pub idsOfKind : ℕ → ℕ
-idsOfKind kind = sumTo (idsAt kind) (kindAt kind .labels)
+idsOfKind kind = sumTo (widthAt kind) (kindAt kind .labels)

@@ -58,7 +58,7 @@ abbrev pub arcFor : List Entry → Label → LA.Arc
 arcFor es l = record { a = pairFor es l (bytes ".a"); b = pairFor es l (bytes ".b"); center = pairFor es l (bytes ".center") }
 
 -- a shape, as it starts
-abbrev pub shapeFor : List Entry → Shape → Label → layout.Shape
+abbrev pub shapeFor : List Entry → Shape → Label → layout.Figure
 shapeFor es point l = layout.point (pairFor es l [])
 shapeFor es circle l = layout.circle (circleFor es l)
 shapeFor es arc l = layout.arc (arcFor es l)

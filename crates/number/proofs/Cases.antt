@@ -8,7 +8,7 @@ use Rattle.text.specs.Text.{refusedAt, runTo, wordAt, byteOn}
 use Rattle.text.specs.declared.Stand.the-variants.{At, Nothing}
 use Rattle.decimal.specs.Decimal.{valueOf, carried}
 use Rattle.root.specs.Function.{floorRoot, nearestRoot, scaledRoot, finiteRoot, rootOf}
-use Rattle.number.specs.Number.{after, numeral, partAt, endAt, joined, noDigit, exponentAt, noNumber, numberAt, closed, exprAt, exprOn}
+use Rattle.number.specs.Number.{stepOver, numeral, partAt, endAt, allDigits, noDigit, exponentAt, noNumber, numberAt, closed, exprAt, exprOn}
 use Rattle.number.specs.declared.Number.{Number}
 
 -- the expression that a text starts with
@@ -43,5 +43,5 @@ pub seams :
     × (reading "sqrt(sqrt(sqrt(sqrt(sqrt(sqrt(sqrt(sqrt(sqrt(1)))))))))" ≡ refused 9 40)
     -- past the end
     × (exprOn (bytes "1") (At 7) ≡ noNumber Nothing)
-unfolding exprOn exprAt wordAt numberAt partAt endAt joined noDigit after numeral exponentAt closed byteOn runTo carried valueOf toBits round rootOf finiteRoot scaledRoot nearestRoot floorRoot size
+unfolding exprOn exprAt wordAt numberAt partAt endAt allDigits noDigit stepOver numeral exponentAt closed byteOn runTo carried valueOf toBits round rootOf finiteRoot scaledRoot nearestRoot floorRoot size
 seams = (refl, refl, refl, refl, refl, refl, refl, refl, refl, refl, refl, refl, refl)

@@ -12,7 +12,7 @@ use lib.ListN.{length, drop}
 use Rattle.ground.proofs.Pieces.{Each, each-append}
 use Rattle.text.proofs.Laws.{run-each, cond-of}
 use Rattle.number.proofs.Numerals.{digit-least, digit-most}
-use Rattle.number.specs.Number.{isDigit, digitsAt, numeral, joined, partAt}
+use Rattle.number.specs.Number.{isDigit, digitsAt, numeral, allDigits, partAt}
 
 -- digits without their leading zeros
 unfoldable pub significant : List ℕ → List ℕ
@@ -71,8 +71,8 @@ few (d ∷ ds) n h =
     (λ e. (short-below d ds n h, (λ l. lt-of-not-le (λ f. not-le-of-lt l (long-above d ds n h (omega (arith, digit-least d (h .0), eqb-false d 48 e)) f)))))
 
 -- the digits of a number, before and after its point
-pub few-digits : (s : List ℕ) (first n : ℕ) → (length (significant (joined s first)) ≤ n) ↔ (numeral 0 (joined s first) < 10 ^ n)
-unfolding joined
+pub few-digits : (s : List ℕ) (first n : ℕ) → (length (significant (allDigits s first)) ≤ n) ↔ (numeral 0 (allDigits s first) < 10 ^ n)
+unfolding allDigits
 few-digits s first n =
     few (digitsAt s first ++ digitsAt s (partAt s first)) n
     (each-append _ (digitsAt s first) (digitsAt s (partAt s first)) (run-each isDigit (drop first s)) (run-each isDigit (drop (partAt s first) s)))

@@ -17,7 +17,7 @@ use Rattle.decimal.specs.declared.Carried.{Carried}
 use Rattle.decimal.specs.declared.Carried.the-variants.{Bits, Outside}
 use Rattle.decimal.proofs.Small.{Small, carried-small}
 use Rattle.root.proofs.Small.{root-small}
-use Rattle.number.specs.Number.{isDigit, isSign, isMinus, isPoint, isExponent, isWord, after, digitsAt, digitsTo, numeral, partAt, endAt, joined, noDigit, exponentAt, scaleOf, carriedBy, noNumber, valued, scaled, numberAt, numberOn, depth, closed, exprAt, exprOn}
+use Rattle.number.specs.Number.{isDigit, isSign, isMinus, isPoint, isExponent, isWord, stepOver, digitsAt, digitsTo, numeral, partAt, endAt, allDigits, noDigit, exponentAt, scaleOf, carriedBy, noNumber, valued, scaled, numberAt, numberOn, depth, closed, exprAt, exprOn}
 use Rattle.number.specs.declared.Exponent.{Exponent}
 use Rattle.number.specs.declared.Exponent.the-variants.{Power, Missing}
 use Rattle.number.specs.declared.Number.{Number}
@@ -30,8 +30,8 @@ module _ (s : List ℕ) where
   abbrev Span : ℕ → ℕ → Type 0
   Span p q = (p ≤ q) × (q ≤ length s)
 
-  after-span : (test : ℕ → Bool) (at : ℕ) → test 0 ≡ false → at ≤ length s → Span at (after test s at)
-  unfolding after
+  after-span : (test : ℕ → Bool) (at : ℕ) → test 0 ≡ false → at ≤ length s → Span at (stepOver test s at)
+  unfolding stepOver
   after-span test at z h = cond-of (Span at) (test (getD s at 0)) (at + 1) at (λ e. (omega arith, omega (arith, inside test s at z e))) (λ e. (le-refl at, h))
 
   digits-span : (at : ℕ) → at ≤ length s → Span at (digitsTo s at)
@@ -45,7 +45,7 @@ module _ (s : List ℕ) where
   end-span first h =
       let a = digits-span first h in
       let b = after-span isPoint (digitsTo s first) refl (a .1) in
-      over a (over b (digits-span (after isPoint s (digitsTo s first)) (b .1)))
+      over a (over b (digits-span (stepOver isPoint s (digitsTo s first)) (b .1)))
 
   -- ---- the exponent
 
@@ -58,7 +58,7 @@ module _ (s : List ℕ) where
   exponent-span at h =
       cond-of (Reaches at) (isExponent (getD s at 0)) _ _
       (λ e.
-      let first = after isSign s (at + 1) in
+      let first = stepOver isSign s (at + 1) in
       let one : Span at (at + 1) = (omega arith, omega (arith, inside isExponent s at refl e)) in
       let sign = after-span isSign (at + 1) refl (one .1) in
       cond-of (Reaches at) (leb (digitsTo s first) first) Missing (Power (isMinus (getD s (at + 1) 0)) (numeral 0 (digitsAt s first)) (digitsTo s first))
@@ -87,10 +87,10 @@ module _ (s : List ℕ) where
   numberAt-read : (at : ℕ) → Read at (numberAt s at)
   unfolding numberAt
   numberAt-read at =
-      let first = after isSign s at in
+      let first = stepOver isSign s at in
       cond-of (Read at) (isWord (getD s first 0)) _ _ (λ e. unread at (refusedAt 8 at) (λ h. tt))
       (λ e. cond-of (Read at) (noDigit s first) _ _ (λ f. unread at Nothing (λ h. tt))
-      (λ f. scaled-read at at (isMinus (getD s at 0)) (numeral 0 (joined s first)) (endAt s first - partAt s first) (endAt s first) (exponentAt s (endAt s first))
+      (λ f. scaled-read at at (isMinus (getD s at 0)) (numeral 0 (allDigits s first)) (endAt s first - partAt s first) (endAt s first) (exponentAt s (endAt s first))
       (λ h.
       let a = after-span isSign at refl h in
       let b = end-span first (a .1) in

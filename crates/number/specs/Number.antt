@@ -6,7 +6,7 @@ use Prim.Native.Nat.{ℕ, zero, suc, _+_, _-_, _*_, _^_, min}
 use lib.Dec.{leb, eqb}
 use lib.ListN.{drop, getD}
 use Rattle.ground.specs.Words.{bytes}
-use Rattle.text.specs.Text.{from, refusedAt, inRange, run, runTo, wordAt, byteOn}
+use Rattle.text.specs.Text.{from, refusedAt, inRange, leading, runTo, wordAt, byteOn}
 use Rattle.text.specs.declared.Stand.{Stand}
 use Rattle.text.specs.declared.Stand.the-variants.{At, Nothing}
 use Rattle.decimal.specs.Decimal.{limit, carried}
@@ -44,14 +44,14 @@ abbrev pub isWord : ℕ → Bool
 isWord b = eqb b 105 || eqb b 73 || eqb b 110 || eqb b 78
 
 -- the place after a byte that passes a test, and the same place where none stands there
-unfoldable pub after : (ℕ → Bool) → List ℕ → ℕ → ℕ
-after test s at = cond (test (getD s at 0)) (at + 1) at
+unfoldable pub stepOver : (ℕ → Bool) → List ℕ → ℕ → ℕ
+stepOver test s at = cond (test (getD s at 0)) (at + 1) at
 
 -- ---- digits
 
 -- the digits at a place, and the place after them
 abbrev pub digitsAt : List ℕ → ℕ → List ℕ
-digitsAt s at = run isDigit (drop at s)
+digitsAt s at = leading isDigit (drop at s)
 
 abbrev pub digitsTo : List ℕ → ℕ → ℕ
 digitsTo = runTo isDigit
@@ -65,15 +65,15 @@ numeral m (d ∷ ds) = numeral (m * 10 + (d - 48)) ds
 
 -- the first place after the optional point
 unfoldable pub partAt : List ℕ → ℕ → ℕ
-partAt s first = after isPoint s (digitsTo s first)
+partAt s first = stepOver isPoint s (digitsTo s first)
 
 -- the place after the digits behind it
 unfoldable pub endAt : List ℕ → ℕ → ℕ
 endAt s first = digitsTo s (partAt s first)
 
 -- the digits before and after the point, joined
-unfoldable pub joined : List ℕ → ℕ → List ℕ
-joined s first = digitsAt s first ++ digitsAt s (partAt s first)
+unfoldable pub allDigits : List ℕ → ℕ → List ℕ
+allDigits s first = digitsAt s first ++ digitsAt s (partAt s first)
 
 -- no digit stands before the point, and none after it
 unfoldable pub noDigit : List ℕ → ℕ → Bool
@@ -84,7 +84,7 @@ noDigit s first = eqb (digitsTo s first) first && eqb (endAt s first) (partAt s 
 -- no `e` is the exponent 0; `e` and an optional sign without digits is missing its digits
 unfoldable pub exponentAt : List ℕ → ℕ → Exponent
 exponentAt s at =
-    let first = after isSign s (at + 1) in
+    let first = stepOver isSign s (at + 1) in
     cond (isExponent (getD s at 0))
     (cond (leb (digitsTo s first) first) Missing (Power (isMinus (getD s (at + 1) 0)) (numeral 0 (digitsAt s first)) (digitsTo s first)))
     (Power false 0 at)
@@ -116,10 +116,10 @@ scaled at negative m count Missing = noNumber (refusedAt 8 at)
 -- a number at a place: an optional sign; digits with an optional point and digits; an optional exponent
 unfoldable pub numberAt : List ℕ → ℕ → Number
 numberAt s at =
-    let first = after isSign s at in
+    let first = stepOver isSign s at in
     cond (isWord (getD s first 0)) (noNumber (refusedAt 8 at))
     (cond (noDigit s first) (noNumber Nothing)
-    (scaled at (isMinus (getD s at 0)) (numeral 0 (joined s first)) (endAt s first - partAt s first) (exponentAt s (endAt s first))))
+    (scaled at (isMinus (getD s at 0)) (numeral 0 (allDigits s first)) (endAt s first - partAt s first) (exponentAt s (endAt s first))))
 
 -- a number where reading stands
 unfoldable pub numberOn : List ℕ → Stand → Number
@@ -166,7 +166,7 @@ pub record Run (s : List ℕ) (at start most value next : ℕ) : Type 0 where
 
 -- the digits before and after the point: the number that they write, how many stand after it, where they end, and whether there is none
 pub record Joined (s : List ℕ) (first m count end : ℕ) (none : Bool) : Type 0 where
-  pub m-is : m ≡ capped limit (numeral 0 (joined s first))
+  pub m-is : m ≡ capped limit (numeral 0 (allDigits s first))
   pub count-is : count ≡ endAt s first - partAt s first
   pub end-is : end ≡ endAt s first
   pub none-is : none ≡ noDigit s first

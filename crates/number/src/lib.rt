@@ -3,7 +3,7 @@ ghost use mathlib.Core.Path.{_≡_};
 ghost use mathlib.Core.Bool.{Bool, true};
 ghost use Prim.Native.Nat.{ℕ, _+_, _-_, _*_, _^_, _<_, _≤_};
 ghost use Rattle.decimal.specs.Decimal.{carried};
-ghost use Rattle.number.specs.Number.{isDigit, isSign, isPoint, isExponent, isWord, after, capped, Run, Joined, exponentCap, carriedBy, exponentAt, cappedExponent, valued, scaled, noNumber, numberAt, numberOn, closed, exprAt, exprOn};
+ghost use Rattle.number.specs.Number.{isDigit, isSign, isPoint, isExponent, isWord, stepOver, capped, Run, Joined, exponentCap, carriedBy, exponentAt, cappedExponent, valued, scaled, noNumber, numberAt, numberOn, closed, exprAt, exprOn};
 use decimal::Carried;
 use decimal::Scale;
 use refusal::Refusal;
@@ -50,7 +50,7 @@ fn is_word(b: u8) -> bool
 
 // The place after an optional sign.
 fn after_sign(text: &[u8], at: usize) -> usize
-    ensures { λ r. ⌜ r ≡ after isSign (now (text .entry)) at ⌝ }
+    ensures { λ r. ⌜ r ≡ stepOver isSign (now (text .entry)) at ⌝ }
 {
     if is_sign(text::byte_at(text, at)) {
         at + 1
@@ -61,7 +61,7 @@ fn after_sign(text: &[u8], at: usize) -> usize
 
 // The place after an optional point.
 fn after_point(text: &[u8], at: usize) -> usize
-    ensures { λ r. ⌜ r ≡ after isPoint (now (text .entry)) at ⌝ }
+    ensures { λ r. ⌜ r ≡ stepOver isPoint (now (text .entry)) at ⌝ }
 {
     if text::byte_at(text, at) == b'.' {
         at + 1

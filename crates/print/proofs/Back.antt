@@ -7,7 +7,7 @@ use native.Mathlib.Nat.{pow-suc}
 use native.Mathlib.Decide.{decLe}
 use native.Mathlib.Omega.{arith}
 use borrow.Author.Count.{below-none, below-more}
-use Rattle.print.specs.Print.{signOf, lastDigits, mostDigits, widthUpTo, width, decimalOf, numberAfter, numberOf}
+use Rattle.print.specs.Print.{signOf, lastDigits, mostDigits, widthUpTo, width, decimalOf, numberAfter, digitsNumber}
 use Rattle.print.proofs.Laws.{width-one, width-more}
 
 -- one digit more at the end
@@ -26,7 +26,7 @@ sign-back =
     more 9 (more 8 (more 7 (more 6 (more 5 (more 4 (more 3 (more 2 (more 1 (more 0 (below-none Back) refl) refl) refl) refl) refl) refl) refl) refl) refl) refl
 
 -- as many digits as a number has read back to it
-digits-back : (k n : ℕ) → n < 10 ^ k → numberOf (lastDigits 10 k n) ≡ n
+digits-back : (k n : ℕ) → n < 10 ^ k → digitsNumber (lastDigits 10 k n) ≡ n
 unfolding lastDigits numberAfter
 digits-back zero n h = omega arith
 digits-back (suc k) n h =
@@ -41,6 +41,6 @@ width-enough (suc limit) n h = elim (decLe 10 n) [
   | no f ↦ rw (width-one limit n (omega arith)) (omega arith)
 ]
 
-pub decimal-back : (n : ℕ) → n < 10 ^ mostDigits → numberOf (decimalOf n) ≡ n
+pub decimal-back : (n : ℕ) → n < 10 ^ mostDigits → digitsNumber (decimalOf n) ≡ n
 unfolding decimalOf
 decimal-back n h = digits-back (width n) n (width-enough mostDigits n h)

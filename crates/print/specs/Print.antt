@@ -59,5 +59,5 @@ numberAfter m [] = m
 numberAfter m (c ∷ s) = numberAfter (m * 10 + (c - 48)) s
 
 -- the number that decimal digits write
-abbrev pub numberOf : List ℕ → ℕ
-numberOf s = numberAfter 0 s
+abbrev pub digitsNumber : List ℕ → ℕ
+digitsNumber s = numberAfter 0 s

@@ -20,7 +20,7 @@ use Rattle.reader.specs.declared.Reading.the-variants as reading
 use Rattle.forms.specs.Section.{stored}
 use Rattle.forms.proofs.Storing.{stored-all}
 use Rattle.forms.proofs.SoundSection.{lines-due}
-use Rattle.reader.specs.Page.{highAt, refused, endedOf, problemOf, readingOf, recordsIn, writtenBy, bufferAfter, Reads}
+use Rattle.reader.specs.Page.{highAt, refusedBy, endedOf, problemOf, readingOf, recordsIn, writtenBy, bufferAfter, Reads}
 use Rattle.reader.specs.Steps.{Paged, toldRecords, Ended}
 
 -- ---- how many records a page can have
@@ -100,14 +100,14 @@ module _ (whole : Bool) (s d : List ℕ) where
   unfolding bufferAfter
   reads-by r d′ e f = record { told = e; buffer = rw (← e) f }
 
-  pub too-long : longestText < length s → Reads whole s d (refused 1 0) d
+  pub too-long : longestText < length s → Reads whole s d (refusedBy 1 0) d
   unfolding readingOf
-  too-long h = reads-by (refused 1 0) d (rw (lt-ltb longestText (length s) h)) refl
+  too-long h = reads-by (refusedBy 1 0) d (rw (lt-ltb longestText (length s) h)) refl
 
   module _ (short : length s ≤ longestText) where
-    pub high : (place : ℕ) → place ≡ highAt s → place < length s → Reads whole s d (refused 2 place) d
+    pub high : (place : ℕ) → place ≡ highAt s → place < length s → Reads whole s d (refusedBy 2 place) d
     unfolding readingOf
-    high place e h = reads-by (refused 2 place) d (rw (le-ltb longestText (length s) short, ← e, lt-ltb place (length s) h)) refl
+    high place e h = reads-by (refusedBy 2 place) d (rw (le-ltb longestText (length s) short, ← e, lt-ltb place (length s) h)) refl
 
     pub read : (place : ℕ) (r : Reading) (d′ : List ℕ) → place ≡ highAt s → length s ≤ place → Ended whole s d r d′ → Reads whole s d r d′
     unfolding readingOf

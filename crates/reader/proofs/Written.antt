@@ -17,7 +17,7 @@ use Rattle.record.specs.Decode.{Short, Fits, noRecord, decodeAt}
 use Rattle.record.specs.Entry.{viewOf, named, entryOf}
 use Rattle.record.specs.declared.Record.{Record}
 use Rattle.record.proofs.Back.{decode-all}
-use Rattle.record.proofs.UpTo.{length-up-to}
+use Rattle.ground.proofs.UpTo.{length-up-to}
 use Rattle.forms.proofs.SoundLines.{Proper}
 use Rattle.reader.specs.Page.{recordsIn}
 use Rattle.reader.proofs.SoundPage.{record-at}

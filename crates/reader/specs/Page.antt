@@ -45,8 +45,8 @@ problemOf s =
 -- ---- what is told, in docs/FORMAT.md's order
 
 -- a refusal by its number at a place
-abbrev pub refused : ℕ → ℕ → Reading
-refused number place = reading.Refused (refusal number place)
+abbrev pub refusedBy : ℕ → ℕ → Reading
+refusedBy number place = reading.Refused (refusal number place)
 
 -- the place of the first byte of 128 or more, or the text's end
 abbrev pub highAt : List ℕ → ℕ
@@ -56,15 +56,15 @@ highAt s = runTo (λ b. ltb b 128) s 0
 -- due and text is left, then 11, then 12
 abbrev pub toldOf : Bool → ℕ → ℕ → ℕ → ℕ → ℕ → Reading
 toldOf whole size instructions guesses bytes end =
-    cond (whole && ltb end size) (refused 10 end)
-    (cond (ltb mostRecords (instructions + guesses)) (refused 11 0)
-    (cond (ltb bytes (recordBytes * (instructions + guesses))) (refused 12 0)
+    cond (whole && ltb end size) (refusedBy 10 end)
+    (cond (ltb mostRecords (instructions + guesses)) (refusedBy 11 0)
+    (cond (ltb bytes (recordBytes * (instructions + guesses))) (refusedBy 12 0)
     (reading.Good instructions guesses end)))
 
 -- where reading stands in the end; it never ends with nothing read (`never-nothing` in proofs/Never)
 abbrev pub endedOf : Bool → ℕ → ℕ → ℕ → ℕ → Stand → Reading
 endedOf whole size instructions guesses bytes (At end) = toldOf whole size instructions guesses bytes end
-endedOf whole size instructions guesses bytes Nothing = refused 3 0
+endedOf whole size instructions guesses bytes Nothing = refusedBy 3 0
 endedOf whole size instructions guesses bytes (Refused why) = reading.Refused why
 
 -- a page of a text
@@ -74,8 +74,8 @@ pageOf whole s p bytes = endedOf whole (length s) (length (p .instructions)) (le
 -- 1, 2, then 3 to 9, then 10 to 12, for a buffer of so many bytes
 unfoldable pub readingOf : Bool → List ℕ → ℕ → Reading
 readingOf whole s bytes =
-    cond (ltb longestText (length s)) (refused 1 0)
-    (cond (ltb (highAt s) (length s)) (refused 2 (highAt s))
+    cond (ltb longestText (length s)) (refusedBy 1 0)
+    (cond (ltb (highAt s) (length s)) (refusedBy 2 (highAt s))
     (pageOf whole s (problemOf s) bytes))
 
 -- ---- what is written

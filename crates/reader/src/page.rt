@@ -3,7 +3,7 @@ ghost use mathlib.Core.Path.{_≡_};
 ghost use Prim.Native.Nat.{_≤_, _<_};
 ghost use lib.ListN.{length};
 ghost use Rattle.record.specs.Record.{mostRecords, recordRoom, longestText};
-ghost use Rattle.reader.specs.Page.{headingOn, optNewlineOn, highAt, Reads, refused, toldOf, endedOf};
+ghost use Rattle.reader.specs.Page.{headingOn, optNewlineOn, highAt, Reads, refusedBy, toldOf, endedOf};
 ghost use Rattle.reader.specs.Steps.{Paged, toldRecords, Ended};
 use crate::Reading;
 use refusal::Refusal;
@@ -104,7 +104,7 @@ fn high_at(text: &[u8]) -> usize
 
 // A refusal by its number at a place.
 fn refused(number: u8, place: usize) -> Reading
-    ensures { λ r. ⌜ r ≡ refused number place ⌝ }
+    ensures { λ r. ⌜ r ≡ refusedBy number place ⌝ }
 {
     Reading::Refused(Refusal { number, place })
 }

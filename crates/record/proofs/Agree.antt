@@ -15,13 +15,13 @@ use Rattle.bytes.specs.Little.{byte}
 use Rattle.record.specs.Steps.{spelledAll, goodKind}
 use Rattle.record.specs.declared.View.{View}
 use Rattle.record.specs.declared.Record.{Record}
-use Rattle.record.specs.Kinds.{Kind, kinds, kindAt, noKind, none, pair}
+use Rattle.record.specs.Kinds.{Kind, kinds, kindAt, noKind, numberless, pair}
 use Rattle.record.specs.Record.{recordBytes, mark, firstGuess, labelPlaces, longestText}
 use Rattle.record.specs.Decode.{decode}
 use Rattle.record.specs.Entry.{Entry, noEntry, labelNo, named, entryOf, noView, viewOf}
 use Rattle.record.specs.Sound.{guessEnd, guessZeros, Placed, Framed, Known, Spelled, Sound, Good, spelledTest, placedTest, framedTest, fieldsTest, soundTest, goodTest}
 use Rattle.record.proofs.Spelled.{says-spelled}
-use Rattle.record.proofs.UpTo.{length-up-to, getD-up-to}
+use Rattle.ground.proofs.UpTo.{length-up-to, getD-up-to}
 
 -- ---- the bytes
 
@@ -94,7 +94,7 @@ says-sound e =
     (says-and (says-known (e .kind))
     (says-and (says-and (says-le (e .third) (k .thirds)) (says-if (says-lt 0 (k .thirds)) (says-lt 0 (e .third))))
     (says-and (says-eq (length (e .labels)) (k .labels))
-    (says-and (says-if (says-eq (k .number) none) (says-eq (e .x) 0)) (says-unless (says-eq (k .number) pair) (says-eq (e .y) 0))))))
+    (says-and (says-if (says-eq (k .number) numberless) (says-eq (e .x) 0)) (says-unless (says-eq (k .number) pair) (says-eq (e .y) 0))))))
     (says-all _ _ (λ q. says-spelled (labelNo e q) (k .dotted)) (length (e .labels))))
 
 pub says-good : (text b : List ℕ) → Says (goodTest text b) (Good text b)

@@ -8,7 +8,7 @@ use lib.Dec.{eqb, ltb}
 use borrow.Author.Tests.{lt-ltb, le-ltb}
 use Rattle.refusal.proofs.Says.{refuted, stable, says-and, says-eq}
 use Rattle.record.specs.Record.{labelPlaces}
-use Rattle.record.specs.Steps.{goodKind, Names}
+use Rattle.record.specs.Steps.{goodKind, NamesLabel}
 use Rattle.record.specs.declared.Record.{Record}
 use Rattle.record.specs.declared.ask.Asked.the-variants as asked
 use Rattle.record.specs.Kinds.{kindAt, angle}
@@ -31,15 +31,15 @@ module _ (text b : List ℕ) where
   -- ---- labels
 
   module _ (q : ℕ) where
-    empty : (goodTest text b && ltb q (decode b .count)) ≡ false → Names text b q noView
+    empty : (goodTest text b && ltb q (decode b .count)) ≡ false → NamesLabel text b q noView
     unfolding labelOf labelFrom
     empty e = record { inside = omega arith; starts = rw e refl; is = rw e refl }
 
-    pub no-record : (Good text b → ⊥) → Names text b q noView
+    pub no-record : (Good text b → ⊥) → NamesLabel text b q noView
     no-record f = empty (rw (refuted (says-good text b) f) refl)
 
     module _ (g : Good text b) where
-      pub no-label : (r : Record) → r ≡ decode b → r .count ≤ q → Names text b q noView
+      pub no-label : (r : Record) → r ≡ decode b → r .count ≤ q → NamesLabel text b q noView
       no-label r e h = empty (rw (says-good text b .back g, le-ltb q (decode b .count) (rw e at h)) refl)
 
       -- a label that is there lies inside the text
@@ -47,7 +47,7 @@ module _ (text b : List ℕ) where
         pub some-place : q < labelPlaces
         some-place = omega (arith, rw e at h, g .framed .few)
 
-        pub some-label : Names text b q (viewOf r q)
+        pub some-label : NamesLabel text b q (viewOf r q)
         unfolding labelOf labelFrom
         some-label =
             record {

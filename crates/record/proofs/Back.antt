@@ -17,7 +17,8 @@ use Rattle.record.specs.Entry.{noView, viewOf}
 use Rattle.record.specs.declared.Record.{Record}
 use Rattle.record.specs.Record.{recordBytes, firstGuess, instruction, guess, encode, encodeAll, labelPlaces, encodeView}
 use Rattle.record.specs.Decode.{isGuess, decode, countOf, recordOf, noRecord, decodeAt, Fits, viewAt, placeIn}
-use Rattle.record.proofs.UpTo.{up-to-list, each-place}
+use Rattle.ground.proofs.UpTo.{up-to-list}
+use Rattle.record.proofs.Places.{each-place}
 
 -- ---- a record of a list
 

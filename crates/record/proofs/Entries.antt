@@ -9,6 +9,7 @@ use lib.Dec.{leb, eqb}
 use lib.ListN.{length, getD, length-append, List·getD-append}
 use lib.Seq.{getD-append-add}
 use borrow.Author.Tests.{le-leb, lt-ltb, le-ltb, eq-eqb, ne-eqb}
+use Rattle.ground.specs.Lists.{upTo}
 use Rattle.refusal.specs.First.{EachBelow}
 use Rattle.refusal.proofs.Says.{fails, refuted, says-and, says-le}
 use Rattle.refusal.proofs.Search.{stops-here, goes-through}
@@ -17,10 +18,10 @@ use Rattle.record.specs.declared.formed.Formed.the-variants as formed
 use Rattle.record.specs.Steps.{goodKind, misplaced}
 use Rattle.record.specs.Record.{recordBytes, mostRecords, longestText}
 use Rattle.record.specs.Decode.{decode, countOf, recordOf}
-use Rattle.record.specs.Entry.{Entry, noEntry, entryAt, upTo, entryOf}
+use Rattle.record.specs.Entry.{Entry, noEntry, entryAt, entryOf}
 use Rattle.record.specs.Sound.{Good, framedTest, soundTest, goodTest}
 use Rattle.record.specs.Formed.{malformedAt, entry, entries, places, anyGuess, faultTest, malformedTest, verdict, formedOf}
-use Rattle.record.proofs.UpTo.{length-up-to, getD-up-to}
+use Rattle.ground.proofs.UpTo.{length-up-to, getD-up-to}
 use Rattle.record.proofs.Agree.{says-framed, says-good, none-unsound, kind-of-bad, kind-of-good}
 
 -- ---- one entry

@@ -10,17 +10,17 @@ use lib.ListN.{length, take, drop}
 use lib.Seq.{take-at, take-add, drop-drop}
 use borrow.Author.Tests.{eqb-true, leb-false}
 use Rattle.ground.proofs.Pieces.{each-at}
-use Rattle.text.specs.Text.{run, runTo, starts, isAlphanum, alphanumTo, wordAt, byteOn, labelAt, labelOn, joined, suffixedOn}
+use Rattle.text.specs.Text.{leading, runTo, starts, isAlphanum, alphanumTo, wordAt, byteOn, labelAt, labelOn, withSecond, suffixedOn}
 use Rattle.text.specs.declared.Stand.{Stand}
 use Rattle.text.specs.declared.Stand.the-variants.{At, Nothing, Refused}
-use Rattle.text.specs.declared.Label.{Label}
+use Rattle.text.specs.declared.ReadLabel.{ReadLabel}
 use Rattle.text.proofs.Laws.{Reached, here, from-of, cond-of, run-each, run-split}
 use Rattle.text.proofs.Within.{runTo-read}
 use Rattle.record.specs.Entry.{part}
 use Rattle.record.specs.Sound.{Plain, Spelled}
 
 -- a label that was read
-pub record Found (s : List ℕ) (dotted : Bool) (l : Label) : Type 0 where
+pub record Found (s : List ℕ) (dotted : Bool) (l : ReadLabel) : Type 0 where
   pub inside : l .start + l .len ≤ length s
   pub spelled : Spelled dotted (part s (l .start) (l .len))
   pub ends : l .then ≡ At (l .start + l .len)
@@ -36,7 +36,7 @@ module _ (s : List ℕ) where
   run-plain : (at : ℕ) → at < alphanumTo s at → Plain (part s at (alphanumTo s at - at))
   unfolding runTo
   run-plain at h =
-      let a = run isAlphanum (drop at s) in
+      let a = leading isAlphanum (drop at s) in
       let n : at + length a - at ≡ length a = omega arith in
       let e : take (length a) (drop at s) ≡ a = ap (take (length a)) (sym (run-split isAlphanum (drop at s))) ∙ take-at a _ (length a) refl in
       rw (n, e) (record { some = omega arith; each = each-at _ a 0 (run-each isAlphanum (drop at s)) })
@@ -44,7 +44,7 @@ module _ (s : List ℕ) where
   pub label-at : (at : ℕ) → Reached (labelOn s (At at) .then) → (labelOn s (At at) .start ≡ at) × Found s false (labelOn s (At at))
   unfolding labelOn labelAt
   label-at at =
-      cond-of (λ (l : Label). Reached (l .then) → (l .start ≡ at) × Found s false l) (leb (alphanumTo s at) at) _ _ (λ e h. absurd (h .is))
+      cond-of (λ (l : ReadLabel). Reached (l .then) → (l .start ≡ at) × Found s false l) (leb (alphanumTo s at) at) _ _ (λ e h. absurd (h .is))
       (λ e h.
       let l : at < alphanumTo s at = leb-false (alphanumTo s at) at e in
       let n : alphanumTo s at ≡ at + (alphanumTo s at - at) = omega arith in
@@ -58,7 +58,7 @@ module _ (s : List ℕ) where
 
   -- ---- two labels around a point
 
-  pub dotted : (l : Label) → Found s false l → Found s true l
+  pub dotted : (l : ReadLabel) → Found s false l → Found s true l
   dotted l f = record { inside = f .inside; spelled = inl (f .spelled); ends = f .ends }
 
   -- a byte at a place
@@ -72,7 +72,7 @@ module _ (s : List ℕ) where
       (λ e g. let z : _≡_ {A = ℕ} 0 1 = cc in absurd (omega arith))
 
   -- the first label, the point behind it and the second label, as one part of the text
-  both-found : (l : Label) → Found s false l → (q : ℕ) → byteOn s (l .then) 46 ≡ At q → (next : ℕ) → labelOn s (At q) .then ≡ At next
+  both-found : (l : ReadLabel) → Found s false l → (q : ℕ) → byteOn s (l .then) 46 ≡ At q → (next : ℕ) → labelOn s (At q) .then ≡ At next
       → Found s true (record { start = l .start; len = next - l .start; then = At next })
   both-found l f q e next k =
       let m = labelOn s (At q) in
@@ -91,11 +91,11 @@ module _ (s : List ℕ) where
       place : {a b : ℕ} → At a ≡ At b → a ≡ b
       place e = cc
 
-  pub suffixed-found : (l : Label) → Found s false l → Found s true (suffixedOn s l)
+  pub suffixed-found : (l : ReadLabel) → Found s false l → Found s true (suffixedOn s l)
   unfolding suffixedOn labelOn
   suffixed-found l f = onward (byteOn s (l .then) 46) refl
     where
-      onward : (t : Stand) → byteOn s (l .then) 46 ≡ t → Found s true (joined l (labelOn s t))
+      onward : (t : Stand) → byteOn s (l .then) 46 ≡ t → Found s true (withSecond l (labelOn s t))
       onward (At q) e = from-of (Found s true) (labelOn s (At q) .then) l _ (dotted l f) (both-found l f q e)
       onward Nothing e = dotted l f
       onward (Refused why) e = dotted l f

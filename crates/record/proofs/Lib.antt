@@ -1,5 +1,5 @@
 pub mod Back
-pub mod UpTo
+pub mod Places
 pub mod Found
 pub mod Spelled
 pub mod Agree

@@ -12,9 +12,9 @@ use lib.Seq.{take-length, drop-at, drop-drop}
 use borrow.Author.Tests.{lt-leb}
 use Rattle.ground.proofs.Pieces.{Each, each-of}
 use Rattle.refusal.proofs.Says.{Says, says-and, says-lt, says-eq, says-iff}
-use Rattle.text.specs.Text.{isAlphanum, alphanumTo, run, runTo, labelAt, labelOn, byteOn, wordAt, suffixedOn, dottedOn}
+use Rattle.text.specs.Text.{isAlphanum, alphanumTo, leading, runTo, labelAt, labelOn, byteOn, wordAt, suffixedOn, dottedOn}
 use Rattle.text.specs.declared.Stand.the-variants.{At}
-use Rattle.text.specs.declared.Label.{Label as Read}
+use Rattle.text.specs.declared.ReadLabel.{ReadLabel}
 use Rattle.text.proofs.Laws.{Reached, here, cond-of}
 use Rattle.record.specs.Entry.{Label}
 use Rattle.record.specs.Sound.{Plain, Spelled, spelledTest}
@@ -23,12 +23,12 @@ use Rattle.record.proofs.Found.{Found, label-found, suffixed-found}
 -- ---- what is spelled as a label is read
 
 -- a run goes up to the first byte that does not pass
-run-ends : (p : ℕ → Bool) (a t : List ℕ) → Each (λ b. p b ≡ true) a → run p t ≡ [] → run p (a ++ t) ≡ a
+run-ends : (p : ℕ → Bool) (a t : List ℕ) → Each (λ b. p b ≡ true) a → leading p t ≡ [] → leading p (a ++ t) ≡ a
 run-ends p [] t h e = e
 run-ends p (b ∷ a) t h e = rw (h .0, run-ends p a t (h .1) e)
 
 -- letters and digits at a place, with what is none behind them
-label-is : (l : List ℕ) (at : ℕ) (a t : List ℕ) → drop at l ≡ a ++ t → Plain a → run isAlphanum t ≡ []
+label-is : (l : List ℕ) (at : ℕ) (a t : List ℕ) → drop at l ≡ a ++ t → Plain a → leading isAlphanum t ≡ []
     → labelOn l (At at) ≡ record { start = at; len = length a; then = At (at + length a) }
 unfolding labelOn labelAt runTo
 label-is l at a t e p r =
@@ -36,7 +36,7 @@ label-is l at a t e p r =
     rw (e, run-ends isAlphanum a t (each-of _ a 0 (p .each)) r, lt-leb (at + length a) at (omega (arith, p .some)), n)
 
 -- the length of what was read is some, and the text's
-abbrev Taken : Label → Read → Type 0
+abbrev Taken : Label → ReadLabel → Type 0
 Taken l m = (0 < m .len) × (m .len ≡ length l)
 
 plain-taken : (l : Label) → Plain l → Taken l (labelOn l (At 0))
@@ -62,10 +62,10 @@ module _ (l : Label) where
   some-read : let m = labelOn l (At 0) in (0 < m .len → Reached (m .then)) × (0 < suffixedOn l m .len → Reached (m .then))
   unfolding labelOn labelAt suffixedOn byteOn
   some-read =
-      cond-of (λ (m : Read). (0 < m .len → Reached (m .then)) × (0 < suffixedOn l m .len → Reached (m .then))) (leb (alphanumTo l 0) 0) _ _
+      cond-of (λ (m : ReadLabel). (0 < m .len → Reached (m .then)) × (0 < suffixedOn l m .len → Reached (m .then))) (leb (alphanumTo l 0) 0) _ _
       (λ e. (λ h. absurd (omega arith), λ h. absurd (omega arith))) (λ e. (λ h. here _, λ h. here _))
 
-  whole : (dotted : Bool) (m : Read) → Found l dotted m → m .len ≡ length l → Spelled dotted l
+  whole : (dotted : Bool) (m : ReadLabel) → Found l dotted m → m .len ≡ length l → Spelled dotted l
   whole dotted m f e =
       let z : m .start ≡ 0 = omega (arith, f .inside, e) in
       rw (z, e, take-length l) at (f .spelled)

@@ -3,6 +3,7 @@ use mathlib.Core.Path.{_≡_}
 use mathlib.Core.List.{List, [], _∷_}
 use Prim.Native.Nat.{ℕ, zero, suc, _+_}
 use lib.ListN.{getD, take, drop}
+use Rattle.ground.specs.Lists.{upTo}
 use Rattle.record.specs.declared.View.{View}
 use Rattle.record.specs.declared.Record.{Record}
 
@@ -31,11 +32,6 @@ abbrev pub labelNo : Entry → ℕ → Label
 labelNo e q = getD (e .labels) q []
 
 -- ---- from a record's fields
-
--- f 0, f 1, .., n of them
-abbrev pub upTo : {A : Type 0} → ℕ → (ℕ → A) → List A
-upTo zero f = []
-upTo (suc n) f = f zero ∷ upTo n (λ k. f (suc k))
 
 -- a label that is not there
 abbrev pub noView : View

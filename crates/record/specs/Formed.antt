@@ -6,13 +6,14 @@ use mathlib.Core.Option.{Option, none, some}
 use Prim.Native.Nat.{ℕ, suc, _%_, _≤_, _<_}
 use lib.Dec.{leb, ltb, eqb}
 use lib.ListN.{length}
+use Rattle.ground.specs.Lists.{upTo}
 use Rattle.refusal.specs.First.{SomeBelow, EachBelow, anyBelow, lowest}
 use Rattle.refusal.specs.declared.Refusal.{Refusal}
 use Rattle.record.specs.declared.formed.Formed.{Formed}
 use Rattle.record.specs.declared.formed.Formed.the-variants as formed
 use Rattle.record.specs.Record.{recordBytes, mostRecords, longestText, firstGuess}
 use Rattle.record.specs.Decode.{isGuess, decode, countOf, recordOf}
-use Rattle.record.specs.Entry.{Entry, noEntry, entryAt, upTo, entryOf}
+use Rattle.record.specs.Entry.{Entry, noEntry, entryAt, entryOf}
 use Rattle.record.specs.Sound.{Sound, Good, framedTest, soundTest}
 
 -- the number of the refusal

@@ -99,8 +99,8 @@ number-part = 7
 
 -- ---- the sorts of number
 
-abbrev pub none : ℕ
-none = 0
+abbrev pub numberless : ℕ
+numberless = 0
 
 abbrev pub number : ℕ
 number = 1
@@ -131,7 +131,7 @@ kind w needs thirds number gap dotted =
 
 -- a rule over labels alone: `two_points` and its like allow a space before the bracket
 abbrev pub rule : String → List ℕ → Bool → Kind
-rule w needs gap = kind w needs 0 none gap false
+rule w needs gap = kind w needs 0 numberless gap false
 
 abbrev pub two : ℕ → List ℕ
 two n = n ∷ n ∷ []
@@ -150,7 +150,7 @@ abbrev pub either : ℕ
 either = 2
 
 abbrev pub noKind : Kind
-noKind = kind "" [] 0 none false false
+noKind = kind "" [] 0 numberless false false
 
 abbrev pub kinds : List Kind
 kinds =
@@ -252,12 +252,12 @@ abbrev pub spellingOf : Kind → ℕ
 spellingOf k = cond (k .gap) with-gap (cond (k .dotted) with-point plain)
 
 -- the row of a kind
-abbrev pub rowOf : Kind → List ℕ
-rowOf k = k .labels ∷ (k .needs ++ (k .thirds ∷ k .number ∷ spellingOf k ∷ []))
+abbrev pub cellsOf : Kind → List ℕ
+cellsOf k = k .labels ∷ (k .needs ++ (k .thirds ∷ k .number ∷ spellingOf k ∷ []))
 
 -- a row for each kind
 abbrev pub table : List (List ℕ)
-table = map rowOf kinds
+table = map cellsOf kinds
 
 -- a cell of a table of that many rows and columns, and 0 past its end
 unfoldable pub cell : List (List ℕ) → ℕ → ℕ → ℕ

@@ -4,12 +4,12 @@ use mathlib.Core.List.{List, [], _∷_, _++_}
 use Prim.Native.Nat.{ℕ, _*_, _-_}
 use lib.Dec.{leb}
 use lib.ListN.{replicate}
-use Rattle.ground.specs.Lists.{flat}
+use Rattle.ground.specs.Lists.{flat, upTo}
 use Rattle.bytes.specs.Little.{le16, le64}
 use Rattle.record.specs.declared.View.{View}
 use Rattle.record.specs.declared.Record.{Record}
 use Rattle.record.specs.Kinds.{pairGuess}
-use Rattle.record.specs.Entry.{noView, viewOf, upTo}
+use Rattle.record.specs.Entry.{noView, viewOf}
 
 -- ---- limits and marks
 

@@ -8,12 +8,12 @@ use lib.Dec.{leb, ltb, eqb}
 use lib.ListN.{length, getD}
 use Rattle.text.specs.Text.{isAlphanum, labelOn, dottedOn}
 use Rattle.text.specs.declared.Stand.the-variants.{At}
-use Rattle.text.specs.declared.Label.{Label as Read}
+use Rattle.text.specs.declared.ReadLabel.{ReadLabel}
 use Rattle.refusal.specs.First.{EachBelow, allBelow}
 use Rattle.bytes.specs.Little.{byte}
 use Rattle.record.specs.declared.View.{View}
 use Rattle.record.specs.declared.Record.{Record}
-use Rattle.record.specs.Kinds.{Kind, kinds, kindAt, none, pair}
+use Rattle.record.specs.Kinds.{Kind, kinds, kindAt, numberless, pair}
 use Rattle.record.specs.Record.{recordBytes, longestText, labelPlaces, mark, firstGuess}
 use Rattle.record.specs.Decode.{isGuess, decode}
 use Rattle.record.specs.Entry.{Label, Entry, labelNo, noView, viewOf, entryOf}
@@ -69,7 +69,7 @@ pub record Sound (e : Entry) : Type 0 where
   pub third : Third (e .kind) (e .third)
   pub count : length (e .labels) ≡ kindAt (e .kind) .labels
   pub spelled : EachBelow (length (e .labels)) (λ q. Spelled (kindAt (e .kind) .dotted) (labelNo e q))
-  pub no-x : kindAt (e .kind) .number ≡ none → e .x ≡ 0
+  pub no-x : kindAt (e .kind) .number ≡ numberless → e .x ≡ 0
   pub no-y : (kindAt (e .kind) .number ≡ pair → ⊥) → e .y ≡ 0
 
 -- the bytes of a good record over a text
@@ -81,12 +81,12 @@ pub record Good (text b : List ℕ) : Type 0 where
 -- ---- the same, as tests
 
 -- a label that was read has n bytes
-abbrev pub reads : Read → ℕ → Bool
-reads l n = ltb 0 (l .len) && eqb (l .len) n
+abbrev pub readsAll : ReadLabel → ℕ → Bool
+readsAll l n = ltb 0 (l .len) && eqb (l .len) n
 
 -- reading a label takes all of it
 unfoldable pub spelledTest : Bool → Label → Bool
-spelledTest dotted l = reads (cond dotted (dottedOn l (At 0)) (labelOn l (At 0))) (length l)
+spelledTest dotted l = readsAll (cond dotted (dottedOn l (At 0)) (labelOn l (At 0))) (length l)
 
 -- a label's view, whether its place is used, and the length of the text
 abbrev pub placedTest : View → Bool → ℕ → Bool
@@ -115,7 +115,7 @@ fieldsTest k third count x y =
     ltb 0 (k .labels)
     && ((leb third (k .thirds) && (not (ltb 0 (k .thirds)) || ltb 0 third))
     && (eqb count (k .labels)
-    && ((not (eqb (k .number) none) || eqb x 0)
+    && ((not (eqb (k .number) numberless) || eqb x 0)
     && (eqb (k .number) pair || eqb y 0))))
 
 -- an entry is sound

@@ -27,7 +27,7 @@ abbrev pub misplaced : ℕ → ℕ → Bool → Bool
 misplaced kind i behind-guess = eqb kind 0 || ((eqb i 0 && isGuess kind) || (not (isGuess kind) && behind-guess))
 
 -- a view that lies inside the text, starts where label q of a record does and names that label
-pub record Names (text b : List ℕ) (q : ℕ) (v : View) : Type 0 where
+pub record NamesLabel (text b : List ℕ) (q : ℕ) (v : View) : Type 0 where
   pub inside : v .start + v .len ≤ length text
   pub starts : v .start ≡ labelFrom text b q
   pub is : part text (v .start) (v .len) ≡ labelOf text b q

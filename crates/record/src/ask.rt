@@ -3,7 +3,7 @@ ghost use mathlib.Core.Path.{_≡_};
 ghost use denote.Ref.{ptr};
 ghost use Rattle.record.specs.Entry.{LendsPart};
 ghost use Rattle.record.specs.Ask.{labelOf, labelFrom, angleIn, angleOf};
-ghost use Rattle.record.specs.Steps.{Names};
+ghost use Rattle.record.specs.Steps.{NamesLabel};
 use super::Record;
 use super::View;
 use super::decode;
@@ -30,7 +30,7 @@ pub enum Asked {
 
 // The part that label q of a record names; an empty one for a bad record or label number.
 fn part_of(text: &[u8], bytes: &[u8], q: usize) -> View
-    ensures { λ r. ⌜ Names (now (text .entry)) (now (bytes .entry)) q r ⌝ }
+    ensures { λ r. ⌜ NamesLabel (now (text .entry)) (now (bytes .entry)) q r ⌝ }
 {
     let kinds = KINDS;
     let nothing = View { start: 0, len: 0 };

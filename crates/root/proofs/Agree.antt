@@ -8,9 +8,9 @@ use native.Mathlib.Nat.{le-of-lt, eq-zero-or-pos}
 use native.Mathlib.Decide.{decLe, ℕ-discrete}
 use native.Mathlib.Omega.{arith}
 use borrow.Author.Tests.{ne-eqb, lt-ltb, le-ltb}
-use Rattle.root.specs.Bits.{plus-zero, minus-zero, infinity, minus-infinity, not-a-number, BelowZero, IsNan, sizeOf}
+use Rattle.root.specs.Bits.{plus-zero, minus-zero, infinity, minus-infinity, theNan, BelowZero, IsNan, unitsOf}
 use Rattle.root.specs.Root.{RootOf, IsRoot, some, itself, none}
-use Rattle.root.specs.Function.{nearestRoot, places, scaledRoot, finiteRoot, isKept, rootOf}
+use Rattle.root.specs.Function.{nearestRoot, placesFor, scaledRoot, finiteRoot, isKept, rootOf}
 use Rattle.root.specs.Promise.{Rooted}
 use Rattle.root.specs.Steps.{Scaling}
 use Rattle.root.proofs.Nearest.{Near, near-same}
@@ -18,48 +18,48 @@ use Rattle.root.proofs.Scale.{scaling-same, finite-root, root-near, roo
 use Rattle.root.proofs.Sizes.{size-same, size-made, has-digits}
 
 -- ---- a finite number above zero
-scaled-root : (b m g : ℕ) → g < 2100 → Scaling (sizeOf b * 2 ^ 52) m g → RootOf b (scaledRoot m g)
+scaled-root : (b m g : ℕ) → g < 2100 → Scaling (unitsOf b * 2 ^ 52) m g → RootOf b (scaledRoot m g)
 unfolding scaledRoot
 scaled-root b m g h k =
-    let n = nearestRoot (m * 2 ^ places g) in
+    let n = nearestRoot (m * 2 ^ placesFor g) in
     let near = root-near m g (k .least) (k .most) in
     let range = root-range m g (k .least) (k .most) in
-    let e : (g + 972) / 2 ≡ suc ((g + 1022 - places g) / 2) = omega arith in
+    let e : (g + 972) / 2 ≡ suc ((g + 1022 - placesFor g) / 2) = omega arith in
     record {
       m = m;
       g = g;
-      s = places g;
+      s = placesFor g;
       n = n;
       x-is = k .value;
       m-least = k .least;
       m-most = omega arith;
       s-is = elim (ℕ-discrete (g % 2) 0) [ yes e ↦ inl (omega arith) | no f ↦ inr (omega arith) ];
       even = omega arith;
-      root-is = rw e (size-made ((g + 1022 - places g) / 2) n (range .0) (range .1));
+      root-is = rw e (size-made ((g + 1022 - placesFor g) / 2) n (range .0) (range .1));
       finite = omega arith;
       below = near .below;
       above = near .above;
     }
 
-finite-is : (b : ℕ) → plus-zero < b → b < infinity → RootOf b (finiteRoot (sizeOf b * 2 ^ 52))
+finite-is : (b : ℕ) → plus-zero < b → b < infinity → RootOf b (finiteRoot (unitsOf b * 2 ^ 52))
 finite-is b p l =
     let d = has-digits b p l in
     rw (finite-root (d .is)) (scaled-root b (d .m) (d .g) (d .few) (d .is))
 
-scaling-of : {b r : ℕ} (k : RootOf b r) → Scaling (sizeOf b * 2 ^ 52) (k .m) (k .g)
+scaling-of : {b r : ℕ} (k : RootOf b r) → Scaling (unitsOf b * 2 ^ 52) (k .m) (k .g)
 scaling-of k = record { least = k .m-least; most = omega (arith, k .m-most); value = k .x-is }
 
 near-of : {b r : ℕ} (k : RootOf b r) → Near (k .n) (k .m * 2 ^ k .s)
 near-of k = record { below = k .below; above = k .above }
 
-even-place : (g s : ℕ) → (s ≡ 52) ⊎ (s ≡ 53) → (g + s) % 2 ≡ 0 → s ≡ places g
+even-place : (g s : ℕ) → (s ≡ 52) ⊎ (s ≡ 53) → (g + s) % 2 ≡ 0 → s ≡ placesFor g
 even-place g s (inl e) h = omega arith
 even-place g s (inr e) h = omega arith
 
 root-of-same : (b r t : ℕ) → RootOf b r → RootOf b t → r ≡ t
 root-of-same b r t k j =
     let d = scaling-same (scaling-of k) (scaling-of j) in
-    let s : k .s ≡ j .s = even-place (k .g) (k .s) (k .s-is) (k .even) ∙ ap places (d .1) ∙ sym (even-place (j .g) (j .s) (j .s-is) (j .even)) in
+    let s : k .s ≡ j .s = even-place (k .g) (k .s) (k .s-is) (k .even) ∙ ap placesFor (d .1) ∙ sym (even-place (j .g) (j .s) (j .s-is) (j .even)) in
     let e : j .m * 2 ^ j .s ≡ k .m * 2 ^ k .s = cc in
     let n : k .n ≡ j .n = near-same (k .n) (j .n) (k .m * 2 ^ k .s) (near-of k) (rw e at (near-of j)) in
     size-same r t (cc (k .root-is, j .root-is))
@@ -69,11 +69,11 @@ pub root-kept : (b : ℕ) → isKept b ≡ true → rootOf b ≡ b
 unfolding rootOf
 root-kept b e = rw e
 
-pub root-none : (b : ℕ) → isKept b ≡ false → infinity < b → rootOf b ≡ not-a-number
+pub root-none : (b : ℕ) → isKept b ≡ false → infinity < b → rootOf b ≡ theNan
 unfolding rootOf
 root-none b e h = rw (e, lt-ltb infinity b h)
 
-root-some : (b : ℕ) → isKept b ≡ false → b ≤ infinity → rootOf b ≡ finiteRoot (sizeOf b * 2 ^ 52)
+root-some : (b : ℕ) → isKept b ≡ false → b ≤ infinity → rootOf b ≡ finiteRoot (unitsOf b * 2 ^ 52)
 unfolding rootOf
 root-some b e h = rw (e, le-ltb infinity b h)
 
@@ -132,5 +132,5 @@ root-exactly b r l = (root-function b r, λ (e : r ≡ rootOf b). rw e (root-is 
 pub rooted : (b r : ℕ) → b < 2 ^ 64 → r ≡ rootOf b → Rooted b r
 rooted b r l e = record { relation = root-exactly b r l .1 e; function = e }
 
-pub rooted-some : (b r m g : ℕ) → isKept b ≡ false → b ≤ infinity → Scaling (sizeOf b * 2 ^ 52) m g → r ≡ scaledRoot m g → Rooted b r
+pub rooted-some : (b r m g : ℕ) → isKept b ≡ false → b ≤ infinity → Scaling (unitsOf b * 2 ^ 52) m g → r ≡ scaledRoot m g → Rooted b r
 rooted-some b r m g h l k e = rooted b r (omega arith) (e ∙ sym (finite-root k) ∙ sym (root-some b h l))

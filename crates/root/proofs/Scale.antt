@@ -6,7 +6,7 @@ use native.Mathlib.Omega.{arith}
 use lib.Pow.{pow-pos, pow-mono, pow-add, shl-shr}
 use lib.Ieee.{size as digits}
 use lib.Ieee.Digits.{size-lt, size-le}
-use Rattle.root.specs.Function.{nearestRoot, places, scaledRoot, finiteRoot}
+use Rattle.root.specs.Function.{nearestRoot, placesFor, scaledRoot, finiteRoot}
 use Rattle.root.specs.Steps.{Scaling}
 use Rattle.root.proofs.Nearest.{Near, nearest-is, near-range}
 
@@ -47,8 +47,8 @@ module _ (m g : ℕ) (least : 2 ^ 52 ≤ m) (most : m < 2 ^ 53) where
   pub doubled : Doubled m (g % 2) (m * (1 + g % 2))
   doubled = doubled-by m (g % 2) least most (omega arith)
 
-  pub root-near : Near (nearestRoot (m * 2 ^ places g)) (m * 2 ^ places g)
-  root-near = nearest-is (m * 2 ^ places g) (omega (arith, doubled)) (omega (arith, doubled))
+  pub root-near : Near (nearestRoot (m * 2 ^ placesFor g)) (m * 2 ^ placesFor g)
+  root-near = nearest-is (m * 2 ^ placesFor g) (omega (arith, doubled)) (omega (arith, doubled))
 
-  pub root-range : (2 ^ 52 ≤ nearestRoot (m * 2 ^ places g)) × (nearestRoot (m * 2 ^ places g) < 2 ^ 53)
-  root-range = near-range (nearestRoot (m * 2 ^ places g)) (m * 2 ^ places g) (omega (arith, doubled)) (omega (arith, doubled)) root-near
+  pub root-range : (2 ^ 52 ≤ nearestRoot (m * 2 ^ placesFor g)) × (nearestRoot (m * 2 ^ placesFor g) < 2 ^ 53)
+  root-range = near-range (nearestRoot (m * 2 ^ placesFor g)) (m * 2 ^ placesFor g) (omega (arith, doubled)) (omega (arith, doubled)) root-near

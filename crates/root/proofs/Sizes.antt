@@ -7,27 +7,27 @@ use native.Mathlib.Omega.{arith}
 use lib.Pow.{pow-pos, pow-mono, pow-add}
 use lib.Ieee.{size as digits}
 use lib.Ieee.Digits.{size-lt, size-le, size-reaches}
-use Rattle.root.specs.Bits.{size, sizeOf, infinity}
+use Rattle.root.specs.Bits.{unitsIn, unitsOf, infinity}
 use Rattle.root.specs.Steps.{Scaling}
 use Rattle.root.proofs.Scale.{scaling-same}
 
 -- ---- from a size to the bits
-fields-same : (x t y u : ℕ) → t < 2 ^ 52 → u < 2 ^ 52 → size x t ≡ size y u → (x ≡ y) × (t ≡ u)
+fields-same : (x t y u : ℕ) → t < 2 ^ 52 → u < 2 ^ 52 → unitsIn x t ≡ unitsIn y u → (x ≡ y) × (t ≡ u)
 fields-same zero t zero u a b e = (refl, e)
 fields-same zero t (suc y) u a b e = omega (arith, le-mul-of-pos-right (2 ^ 52 + u) (pow-pos y))
 fields-same (suc x) t zero u a b e = omega (arith, le-mul-of-pos-right (2 ^ 52 + t) (pow-pos x))
 fields-same (suc x) t (suc y) u a b e =
-    let k = scaling-same {v = size (suc x) t} {m = 2 ^ 52 + t} {g = x} {n = 2 ^ 52 + u} {k = y}
+    let k = scaling-same {v = unitsIn (suc x) t} {m = 2 ^ 52 + t} {g = x} {n = 2 ^ 52 + u} {k = y}
     (record { least = omega arith; most = omega arith; value = refl }) (record { least = omega arith; most = omega arith; value = e }) in
     (omega arith, omega arith)
 
-pub size-same : (r s : ℕ) → sizeOf r ≡ sizeOf s → r ≡ s
+pub size-same : (r s : ℕ) → unitsOf r ≡ unitsOf s → r ≡ s
 size-same r s e =
     let k = fields-same (r / 2 ^ 52) (r % 2 ^ 52) (s / 2 ^ 52) (s % 2 ^ 52) (omega arith) (omega arith) e in
     omega arith
 
 -- ---- from n * 2^x to the bits
-pub size-made : (x n : ℕ) → 2 ^ 52 ≤ n → n < 2 ^ 53 → sizeOf (suc x * 2 ^ 52 + (n - 2 ^ 52)) ≡ n * 2 ^ x
+pub size-made : (x n : ℕ) → 2 ^ 52 ≤ n → n < 2 ^ 53 → unitsOf (suc x * 2 ^ 52 + (n - 2 ^ 52)) ≡ n * 2 ^ x
 size-made x n a b =
     let e : (suc x * 2 ^ 52 + (n - 2 ^ 52)) / 2 ^ 52 ≡ suc x = omega arith in
     let f : 2 ^ 52 + (suc x * 2 ^ 52 + (n - 2 ^ 52)) % 2 ^ 52 ≡ n = omega arith in
@@ -35,7 +35,7 @@ size-made x n a b =
 
 -- ---- the 53 digits of a number
 -- one with its leading digit
-pub scaling-normal : (x t : ℕ) → 0 < x → t < 2 ^ 52 → Scaling (size x t * 2 ^ 52) (2 ^ 52 + t) (x + 51)
+pub scaling-normal : (x t : ℕ) → 0 < x → t < 2 ^ 52 → Scaling (unitsIn x t * 2 ^ 52) (2 ^ 52 + t) (x + 51)
 scaling-normal zero t p h = omega arith
 scaling-normal (suc x) t p h =
     let e : suc x + 51 ≡ x + 52 = omega arith in
@@ -60,7 +60,7 @@ pub record Digits (v : ℕ) : Type 0 where
   pub few : g < 2100
   pub is : Scaling v m g
 
-digits-of : (x t : ℕ) → x < 2047 → t < 2 ^ 52 → 0 < x + t → Digits (size x t * 2 ^ 52)
+digits-of : (x t : ℕ) → x < 2047 → t < 2 ^ 52 → 0 < x + t → Digits (unitsIn x t * 2 ^ 52)
 digits-of zero t h l p =
     let d = digits t in
     let some : 0 < d = lt-of-not-le (λ (z : d ≤ 0). omega (arith, size-lt t, pow-mono z)) in
@@ -74,5 +74,5 @@ digits-of zero t h l p =
     }
 digits-of (suc x) t h l p = record { m = 2 ^ 52 + t; g = suc x + 51; few = omega arith; is = scaling-normal (suc x) t (omega arith) l }
 
-pub has-digits : (b : ℕ) → 0 < b → b < infinity → Digits (sizeOf b * 2 ^ 52)
+pub has-digits : (b : ℕ) → 0 < b → b < infinity → Digits (unitsOf b * 2 ^ 52)
 has-digits b p l = digits-of (b / 2 ^ 52) (b % 2 ^ 52) (omega arith) (omega arith) (omega arith)

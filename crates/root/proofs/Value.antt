@@ -10,10 +10,10 @@ use lib.Ieee.{nan, inf, binary64, ofBits, ofFields}
 use lib.Ieee.Bits.{nanBits-is, nanBits-above}
 use lib.Ieee.Exact.{HasValue, odd-sign}
 use Rattle.ground.proofs.Floats.{only-nan}
-use Rattle.root.specs.Bits.{minus-zero, infinity, minus-infinity, IsNan, size, sizeOf}
+use Rattle.root.specs.Bits.{minus-zero, infinity, minus-infinity, IsNan, unitsIn, unitsOf}
 use Rattle.root.specs.Root.{RootOf}
 
-fields : (s : Bool) (x t : ℕ) → x < 2047 → HasValue (ofFields binary64 s x t) s (size x t) (2 ^ 1074)
+fields : (s : Bool) (x t : ℕ) → x < 2047 → HasValue (ofFields binary64 s x t) s (unitsIn x t) (2 ^ 1074)
 unfolding ofFields
 fields s zero t h = rw mul-one at (odd-sign 53 s t 0 1074)
 fields s (suc x) t h =
@@ -21,7 +21,7 @@ fields s (suc x) t h =
     rw (ne-eqb (suc x) 2047 f) (odd-sign 53 s (2 ^ 52 + t) x 1074)
 
 -- a finite number, zero or above
-pub value : (b : ℕ) → b < infinity → HasValue (ofBits binary64 b) false (sizeOf b) (2 ^ 1074)
+pub value : (b : ℕ) → b < infinity → HasValue (ofBits binary64 b) false (unitsOf b) (2 ^ 1074)
 unfolding ofBits
 value b h =
     let e : b % 2 ^ 63 ≡ b = omega arith in
@@ -32,7 +32,7 @@ pub root-value : (b r : ℕ) (k : RootOf b r) → HasValue (ofBits binary64 r) f
 root-value b r k = rw (k .root-is) at (value r (k .finite))
 
 -- a finite number below zero
-pub minus-value : (b : ℕ) → minus-zero < b → b < minus-infinity → HasValue (ofBits binary64 b) true (sizeOf (b - minus-zero)) (2 ^ 1074)
+pub minus-value : (b : ℕ) → minus-zero < b → b < minus-infinity → HasValue (ofBits binary64 b) true (unitsOf (b - minus-zero)) (2 ^ 1074)
 unfolding ofBits
 minus-value b p h =
     let e : b % 2 ^ 63 ≡ b - minus-zero = omega arith in

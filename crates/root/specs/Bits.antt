@@ -16,8 +16,8 @@ abbrev pub minus-infinity : ℕ
 minus-infinity = 0xfff0_0000_0000_0000
 
 -- the NaN that stands for every NaN
-abbrev pub not-a-number : ℕ
-not-a-number = 0x7ff8_0000_0000_0000
+abbrev pub theNan : ℕ
+theNan = 0x7ff8_0000_0000_0000
 
 -- b is a number below zero, minus infinity among them
 abbrev pub BelowZero : ℕ → Type 0
@@ -28,10 +28,10 @@ abbrev pub IsNan : ℕ → Type 0
 IsNan b = infinity < b % 2 ^ 63
 
 -- the units of 2^-1074 in a finite number, by the field of its exponent and its last 52 digits
-abbrev pub size : ℕ → ℕ → ℕ
-size zero t = t
-size (suc x) t = (2 ^ 52 + t) * 2 ^ x
+abbrev pub unitsIn : ℕ → ℕ → ℕ
+unitsIn zero t = t
+unitsIn (suc x) t = (2 ^ 52 + t) * 2 ^ x
 
 -- the units of 2^-1074 in the finite number, zero or above, with the bits b
-abbrev pub sizeOf : ℕ → ℕ
-sizeOf b = size (b / 2 ^ 52) (b % 2 ^ 52)
+abbrev pub unitsOf : ℕ → ℕ
+unitsOf b = unitsIn (b / 2 ^ 52) (b % 2 ^ 52)

@@ -5,11 +5,11 @@ use Prim.Native.Nat.{ℕ, _*_, _/_, _^_, _<_}
 use native.Mathlib.Omega.{arith}
 use lib.ListN.{length, getD}
 use borrow.Author.Tests.{le-ltb}
+use Rattle.ground.specs.Lists.{upTo}
 use Rattle.ground.proofs.Pieces.{Each, each-of, length-flat, piece-at}
 use Rattle.bytes.specs.Little.{u64}
 use Rattle.bytes.proofs.Little.{number-le}
-use Rattle.record.specs.Entry.{upTo}
-use Rattle.record.proofs.UpTo.{getD-up-to, up-to-list}
+use Rattle.ground.proofs.UpTo.{getD-up-to, up-to-list}
 use Rattle.row.specs.Row.{Row, rowBytes, mostIds, eight, held, bytesOf, encodeRow, encodeRows, rowNo, idAt, heldIn, meant, decodeRow, RowFits}
 
 pub length-row : (r : Row) → length (encodeRow r) ≡ rowBytes

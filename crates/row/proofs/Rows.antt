@@ -14,13 +14,13 @@ use Rattle.refusal.proofs.Says.{Says, says-iff, says-and, says-if, says-all, sa
 use Rattle.bytes.specs.Little.{byte}
 use Rattle.layout.specs.Slots.{sizeOf}
 use Rattle.layout.specs.declared.ShapeKind.the-variants.{Point, Circle, Arc}
-use Rattle.record.specs.Kinds.{table, cell, kindAt, needsColumn, firstRule, lastRule, none}
+use Rattle.record.specs.Kinds.{table, cell, kindAt, needsColumn, firstRule, lastRule, numberless}
 use Rattle.record.specs.Record.{labelPlaces}
 use Rattle.record.proofs.Cells.{looked, needs-is}
 use Rattle.row.specs.declared.Row.{Row as Held}
 use Rattle.row.specs.Row.{Row, held, bytesOf, encodeRow, encodeRows, RowFits, rowBytes, rowMark, mostIds, rowNo, rowOf, heldIn}
 use Rattle.row.proofs.Back.{noRow, fields-back, rows-length, rows-count, row-no}
-use Rattle.row.specs.Formed.{idsFor, idsAt, idsOf, FieldsFormed, RowFormed, RowsFormed, fieldsTest, rowTest, rowsTest}
+use Rattle.row.specs.Formed.{idsFor, idsAt, idsOf, FieldsFormed, RowFormed, RowsFormed, heldTest, rowTest, rowsTest}
 
 -- ---- the ids of a kind
 
@@ -47,7 +47,7 @@ by-need lent kind q need ids e h found is =
 
 -- ---- what the tests say
 
-says-fields : (h : Held) → Says (fieldsTest (kindAt (h .kind)) h) (FieldsFormed h)
+says-fields : (h : Held) → Says (heldTest (kindAt (h .kind)) h) (FieldsFormed h)
 says-fields h =
     says-iff
     (λ w. record { rule = (w .0, w .1 .0); count = w .1 .1 .0; third = w .1 .1 .1 .0; unused = w .1 .1 .1 .1 .0; no-number = w .1 .1 .1 .1 .1 })
@@ -57,7 +57,7 @@ says-fields h =
     (says-and (says-eq (h .count) (idsOf (h .kind)))
     (says-and (says-and (says-le (h .third) (kindAt (h .kind) .thirds)) (says-if (says-lt 0 (kindAt (h .kind) .thirds)) (says-lt 0 (h .third))))
     (says-and (says-all _ _ (λ q. says-if (says-le (h .count) q) (says-eq (getD (h .ids) q 0) 0)) mostIds)
-    (says-if (says-eq (kindAt (h .kind) .number) none) (says-eq (h .bits) 0)))))))
+    (says-if (says-eq (kindAt (h .kind) .number) numberless) (says-eq (h .bits) 0)))))))
 
 says-row : (b : List ℕ) → Says (rowTest b) (RowFormed b)
 unfolding rowTest

@@ -10,7 +10,7 @@ use Rattle.refusal.specs.First.{EachBelow, allBelow}
 use Rattle.bytes.specs.Little.{byte}
 use Rattle.layout.specs.Slots.{sizeOf}
 use Rattle.layout.specs.declared.ShapeKind.the-variants.{Point, Circle, Arc}
-use Rattle.record.specs.Kinds.{Kind, kindAt, firstRule, lastRule, Rule, none}
+use Rattle.record.specs.Kinds.{Kind, kindAt, firstRule, lastRule, Rule, numberless}
 use Rattle.record.specs.Record.{labelPlaces}
 use Rattle.record.specs.Sound.{Third}
 use Rattle.row.specs.declared.Row.{Row as Held}
@@ -38,7 +38,7 @@ pub record FieldsFormed (h : Held) : Type 0 where
   pub count : h .count ≡ idsOf (h .kind)
   pub third : Third (h .kind) (h .third)
   pub unused : EachBelow mostIds (λ q. h .count ≤ q → getD (h .ids) q 0 ≡ 0)
-  pub no-number : kindAt (h .kind) .number ≡ none → h .bits ≡ 0
+  pub no-number : kindAt (h .kind) .number ≡ numberless → h .bits ≡ 0
 
 -- the bytes of a row: its mark, and such fields
 pub record RowFormed (b : List ℕ) : Type 0 where
@@ -57,18 +57,18 @@ abbrev pub clearAt : Held → ℕ → Bool
 clearAt h q = not (leb (h .count) q) || eqb (getD (h .ids) q 0) 0
 
 -- the fields, by their kind
-abbrev pub fieldsTest : Kind → Held → Bool
-fieldsTest k h =
+abbrev pub heldTest : Kind → Held → Bool
+heldTest k h =
     leb firstRule (h .kind)
     && (leb (h .kind) lastRule
     && (eqb (h .count) (idsOf (h .kind))
     && ((leb (h .third) (k .thirds) && (not (ltb 0 (k .thirds)) || ltb 0 (h .third)))
     && (allBelow mostIds (clearAt h)
-    && (not (eqb (k .number) none) || eqb (h .bits) 0)))))
+    && (not (eqb (k .number) numberless) || eqb (h .bits) 0)))))
 
 -- the bytes are a well formed row
 unfoldable pub rowTest : List ℕ → Bool
-rowTest b = eqb (byte b 0) rowMark && fieldsTest (kindAt (heldIn b .kind)) (heldIn b)
+rowTest b = eqb (byte b 0) rowMark && heldTest (kindAt (heldIn b .kind)) (heldIn b)
 
 -- the bytes are well formed rows
 unfoldable pub rowsTest : List ℕ → Bool

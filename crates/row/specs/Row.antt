@@ -4,9 +4,8 @@ use mathlib.Core.List.{List, _∷_, _++_}
 use Prim.Native.Nat.{ℕ, _+_, _*_, _/_, _^_, _≤_, _<_}
 use lib.Dec.{ltb}
 use lib.ListN.{length, getD, take, drop, replicate}
-use Rattle.ground.specs.Lists.{flat}
+use Rattle.ground.specs.Lists.{flat, upTo}
 use Rattle.bytes.specs.Little.{le32, le64, byte, u32, u64}
-use Rattle.record.specs.Entry.{upTo}
 use Rattle.row.specs.declared.Row.{Row as Held}
 
 -- a rule with ids in the place of labels

@@ -8,7 +8,7 @@ ghost use Rattle.layout.specs.declared.ShapeKind.the-variants.{Arc};
 ghost use Rattle.record.specs.Kinds.{table, kindAt};
 ghost use Rattle.record.specs.Record.{labelPlaces};
 ghost use Rattle.row.specs.Row.{rowBytes, mostIds, rowNo};
-ghost use Rattle.row.specs.Formed.{idsAt, idsOf, clearAt, fieldsTest, rowTest, rowsTest};
+ghost use Rattle.row.specs.Formed.{idsAt, idsOf, clearAt, heldTest, rowTest, rowsTest};
 use super::MARK;
 use super::ROW;
 use super::Row;
@@ -66,7 +66,7 @@ fn clear(r: Row) -> bool
 // Whether the fields of a row are as its kind allows.
 fn fields_formed(kinds: &[[u8; 8]; 26], r: Row) -> bool
     requires { ⌜ now kinds ≡ table ⌝ }
-    ensures { λ b. ⌜ b ≡ fieldsTest (kindAt (r .kind)) r ⌝ }
+    ensures { λ b. ⌜ b ≡ heldTest (kindAt (r .kind)) r ⌝ }
 {
     let kind = r.kind;
     let ids = ids_of(kinds, kind);

@@ -13,7 +13,7 @@ use borrow.Author.Tests.{eq-eqb, ne-eqb}
 use types.Run.{OneOf}
 use denote.Enum.Declared.{tagOf}
 use Rattle.ground.proofs.Pieces.{Each}
-use Rattle.text.specs.Text.{from, orStand, run, runTo, starts}
+use Rattle.text.specs.Text.{from, orStand, leading, runTo, starts}
 use Rattle.text.specs.declared.Stand.{Stand}
 use Rattle.text.specs.declared.Stand.the-variants.{At, Nothing, Refused}
 use Rattle.text.proofs.Stand.{the-type}
@@ -71,13 +71,13 @@ inside s i b e p = lt-of-not-le (λ (h : length s ≤ i). omega (arith, past s i
 
 -- ---- a run
 module _ (p : ℕ → Bool) (s : List ℕ) (i : ℕ) where
-  pub run-more : i < length s → p (getD s i 0) ≡ true → run p (drop i s) ≡ getD s i 0 ∷ run p (drop (i + 1) s)
+  pub run-more : i < length s → p (getD s i 0) ≡ true → leading p (drop i s) ≡ getD s i 0 ∷ leading p (drop (i + 1) s)
   run-more h e = rw (add-one, drop-cons s i 0, e)
 
-  pub run-stop : i < length s → p (getD s i 0) ≡ false → run p (drop i s) ≡ []
+  pub run-stop : i < length s → p (getD s i 0) ≡ false → leading p (drop i s) ≡ []
   run-stop h e = rw (drop-cons s i 0, e)
 
-  pub run-end : length s ≤ i → run p (drop i s) ≡ []
+  pub run-end : length s ≤ i → leading p (drop i s) ≡ []
   run-end h = rw (drop-of-length-le s h)
 
   pub runTo-more : i < length s → p (getD s i 0) ≡ true → runTo p s i ≡ runTo p s (i + 1)
@@ -97,14 +97,14 @@ module _ (p : ℕ → Bool) (s : List ℕ) (i : ℕ) where
   runTo-ahead = omega arith
 
 -- each byte of a run passes, and what follows the run is the rest of the text
-pub run-each : (p : ℕ → Bool) (l : List ℕ) → Each (λ b. p b ≡ true) (run p l)
+pub run-each : (p : ℕ → Bool) (l : List ℕ) → Each (λ b. p b ≡ true) (leading p l)
 run-each p [] = tt
-run-each p (b ∷ l) = cond-of (Each (λ c. p c ≡ true)) (p b) (b ∷ run p l) [] (λ e. (e, run-each p l)) (λ e. tt)
+run-each p (b ∷ l) = cond-of (Each (λ c. p c ≡ true)) (p b) (b ∷ leading p l) [] (λ e. (e, run-each p l)) (λ e. tt)
 
-pub run-split : (p : ℕ → Bool) (l : List ℕ) → run p l ++ drop (length (run p l)) l ≡ l
+pub run-split : (p : ℕ → Bool) (l : List ℕ) → leading p l ++ drop (length (leading p l)) l ≡ l
 run-split p [] = refl
 run-split p (b ∷ l) =
-    cond-of (λ (a : List ℕ). a ++ drop (length a) (b ∷ l) ≡ b ∷ l) (p b) (b ∷ run p l) [] (λ e. ap (λ (z : List ℕ). b ∷ z) (run-split p l)) (λ e. refl)
+    cond-of (λ (a : List ℕ). a ++ drop (length a) (b ∷ l) ≡ b ∷ l) (p b) (b ∷ leading p l) [] (λ e. ap (λ (z : List ℕ). b ∷ z) (run-split p l)) (λ e. refl)
 
 -- ---- a word
 module _ (w s : List ℕ) (i p : ℕ) where

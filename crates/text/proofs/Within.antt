@@ -8,10 +8,10 @@ use native.Mathlib.Omega.{arith}
 use lib.Dec.{leb, eqb}
 use lib.ListN.{length, drop, length-drop}
 use borrow.Author.Tests.{leb-false}
-use Rattle.text.specs.Text.{from, run, runTo, starts, isSpace, isAlphanum, alphanumTo, noLabel, wordAt, labelAt, wsOn, wordOn, byteOn, labelOn}
+use Rattle.text.specs.Text.{from, leading, runTo, starts, isSpace, isAlphanum, alphanumTo, noLabel, wordAt, labelAt, wsOn, wordOn, byteOn, labelOn}
 use Rattle.text.specs.declared.Stand.{Stand}
 use Rattle.text.specs.declared.Stand.the-variants.{At, Nothing, Refused}
-use Rattle.text.specs.declared.Label.{Label}
+use Rattle.text.specs.declared.ReadLabel.{ReadLabel}
 use Rattle.text.proofs.Laws.{runTo-ahead, from-of, cond-of}
 
 -- a place, where reading stands at one, lies between p and the text's end
@@ -25,10 +25,10 @@ earlier s (Refused why) l h = tt
 
 -- ---- how far a run and a word reach
 
-run-length : (p : ℕ → Bool) (l : List ℕ) → length (run p l) ≤ length l
+run-length : (p : ℕ → Bool) (l : List ℕ) → length (leading p l) ≤ length l
 run-length p [] = le-refl 0
 run-length p (b ∷ bs) =
-    cond-of (λ (l : List ℕ). length l ≤ suc (length bs)) (p b) (b ∷ run p bs) [] (λ e. omega (arith, run-length p bs)) (λ e. omega arith)
+    cond-of (λ (l : List ℕ). length l ≤ suc (length bs)) (p b) (b ∷ leading p bs) [] (λ e. omega (arith, run-length p bs)) (λ e. omega arith)
 
 -- a run at a place ends inside the text, but where the place lies past its end
 pub runTo-inside : (p : ℕ → Bool) (s : List ℕ) (at : ℕ) → at ≤ length s → runTo p s at ≤ length s
@@ -63,7 +63,7 @@ module _ (s : List ℕ) where
   unfolding labelAt
   labelAt-within at =
       let next = alphanumTo s at in
-      cond-of (λ (l : Label). Within s at (l .then)) (leb next at) _ _ (λ e. tt)
+      cond-of (λ (l : ReadLabel). Within s at (l .then)) (leb next at) _ _ (λ e. tt)
       (λ e. let l : at < next = leb-false next at e in (omega arith, runTo-read isAlphanum s at l))
 
   module _ (p : ℕ) where
@@ -81,4 +81,4 @@ module _ (s : List ℕ) where
 
     pub label-within : (stand : Stand) → Within s p stand → Within s p (labelOn s stand .then)
     unfolding labelOn
-    label-within t h = from-of (λ (l : Label). Within s p (l .then)) t (noLabel t) _ h (λ n e. let i = rw e at h in earlier s (labelAt s n .then) (i .0) (labelAt-within n))
+    label-within t h = from-of (λ (l : ReadLabel). Within s p (l .then)) t (noLabel t) _ h (λ n e. let i = rw e at h in earlier s (labelAt s n .then) (i .0) (labelAt-within n))

@@ -8,7 +8,7 @@ use lib.ListN.{length, drop}
 use Rattle.refusal.specs.Refusal.{refusal}
 use Rattle.text.specs.declared.Stand.{Stand}
 use Rattle.text.specs.declared.Stand.the-variants.{At, Nothing, Refused}
-use Rattle.text.specs.declared.Label.{Label}
+use Rattle.text.specs.declared.ReadLabel.{ReadLabel}
 
 -- ---- the rail
 
@@ -50,13 +50,13 @@ abbrev pub isAlphanum : ℕ → Bool
 isAlphanum b = inRange 97 122 b || inRange 48 57 b || inRange 65 90 b
 
 -- the bytes that a text starts with and that pass a test, before one that does not
-abbrev pub run : (ℕ → Bool) → List ℕ → List ℕ
-run p [] = []
-run p (b ∷ bs) = cond (p b) (b ∷ run p bs) []
+abbrev pub leading : (ℕ → Bool) → List ℕ → List ℕ
+leading p [] = []
+leading p (b ∷ bs) = cond (p b) (b ∷ leading p bs) []
 
 -- the place after such bytes at a place
 unfoldable pub runTo : (ℕ → Bool) → List ℕ → ℕ → ℕ
-runTo p s at = at + length (run p (drop at s))
+runTo p s at = at + length (leading p (drop at s))
 
 -- ---- spaces
 
@@ -99,28 +99,28 @@ abbrev pub alphanumTo : List ℕ → ℕ → ℕ
 alphanumTo = runTo isAlphanum
 
 -- no label
-abbrev pub noLabel : Stand → Label
+abbrev pub noLabel : Stand → ReadLabel
 noLabel stand = record { start = 0; len = 0; then = stand }
 
 -- a label at a place: one or more letters and digits
-unfoldable pub labelAt : List ℕ → ℕ → Label
+unfoldable pub labelAt : List ℕ → ℕ → ReadLabel
 labelAt s at =
     let next = alphanumTo s at in
     cond (leb next at) (noLabel Nothing) (record { start = at; len = next - at; then = At next })
 
 -- a label
-unfoldable pub labelOn : List ℕ → Stand → Label
+unfoldable pub labelOn : List ℕ → Stand → ReadLabel
 labelOn s stand = from stand (noLabel stand) (labelAt s)
 
 -- the first label up to the end of the second, where a second was read
-abbrev pub joined : Label → Label → Label
-joined first second =
+abbrev pub withSecond : ReadLabel → ReadLabel → ReadLabel
+withSecond first second =
     from (second .then) first (λ next. record { start = first .start; len = next - first .start; then = At next })
 
 -- a label that was read, with a point and a second label behind it where both stand there
-unfoldable pub suffixedOn : List ℕ → Label → Label
-suffixedOn s first = joined first (labelOn s (byteOn s (first .then) 46))
+unfoldable pub suffixedOn : List ℕ → ReadLabel → ReadLabel
+suffixedOn s first = withSecond first (labelOn s (byteOn s (first .then) 46))
 
 -- a label with an optional point and second label
-abbrev pub dottedOn : List ℕ → Stand → Label
+abbrev pub dottedOn : List ℕ → Stand → ReadLabel
 dottedOn s stand = suffixedOn s (labelOn s stand)

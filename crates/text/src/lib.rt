@@ -2,7 +2,7 @@
 // Each reader goes on from a place, and hands on a stand that is no place.
 ghost use mathlib.Core.Path.{_≡_};
 ghost use lib.ListN.{getD};
-ghost use Rattle.text.specs.Text.{orStand, missed, due, isSpace, isAlphanum, spacesTo, alphanumTo, wsOn, labelOn, joined, suffixedOn, dottedOn, wordAt, wordOn, byteOn, newlineOn};
+ghost use Rattle.text.specs.Text.{orStand, missed, due, isSpace, isAlphanum, spacesTo, alphanumTo, wsOn, labelOn, withSecond, suffixedOn, dottedOn, wordAt, wordOn, byteOn, newlineOn};
 use refusal::Refusal;
 
 // A place of the text; nothing read; or a refusal.
@@ -13,7 +13,7 @@ pub enum Stand {
 }
 
 // A label by its first byte and its length, and where reading stands behind it.
-pub struct Label {
+pub struct ReadLabel {
     pub start: usize,
     pub len: usize,
     pub then: Stand,
@@ -108,11 +108,11 @@ pub fn ws(text: &[u8], stand: Stand) -> Stand
 }
 
 // One or more letters and digits.
-pub fn parse_label(text: &[u8], stand: Stand) -> Label
+pub fn parse_label(text: &[u8], stand: Stand) -> ReadLabel
     ensures { λ r. ⌜ r ≡ labelOn (now (text .entry)) stand ⌝ }
 {
     let Stand::At(at) = stand else {
-        return Label {
+        return ReadLabel {
             start: 0,
             len: 0,
             then: stand,
@@ -120,13 +120,13 @@ pub fn parse_label(text: &[u8], stand: Stand) -> Label
     };
     let next = alphanum_to(text, at);
     if next <= at {
-        return Label {
+        return ReadLabel {
             start: 0,
             len: 0,
             then: Stand::Nothing,
         };
     }
-    Label {
+    ReadLabel {
         start: at,
         len: next - at,
         then: Stand::At(next),
@@ -134,8 +134,8 @@ pub fn parse_label(text: &[u8], stand: Stand) -> Label
 }
 
 // The first label up to the end of the second, where there is a second.
-fn join(first: Label, second: Label) -> Label
-    ensures { λ r. ⌜ r ≡ joined first second ⌝ }
+fn join(first: ReadLabel, second: ReadLabel) -> ReadLabel
+    ensures { λ r. ⌜ r ≡ withSecond first second ⌝ }
 {
     let then = second.then;
     let Stand::At(next) = then else {
@@ -143,11 +143,11 @@ fn join(first: Label, second: Label) -> Label
     };
     let start = first.start;
     let len = if start <= next { next - start } else { 0 };
-    Label { start, len, then }
+    ReadLabel { start, len, then }
 }
 
 // A label with a point and a second label behind it, where both stand there.
-pub fn opt_suffix(text: &[u8], first: Label) -> Label
+pub fn opt_suffix(text: &[u8], first: ReadLabel) -> ReadLabel
     ensures { λ r. ⌜ r ≡ suffixedOn (now (text .entry)) first ⌝ }
 {
     let then = first.then;
@@ -157,7 +157,7 @@ pub fn opt_suffix(text: &[u8], first: Label) -> Label
 }
 
 // A label with an optional point and second label.
-pub fn parse_label_opt_suffix(text: &[u8], stand: Stand) -> Label
+pub fn parse_label_opt_suffix(text: &[u8], stand: Stand) -> ReadLabel
     ensures { λ r. ⌜ r ≡ dottedOn (now (text .entry)) stand ⌝ }
 {
     let first = parse_label(text, stand);

@@ -1,15 +1,15 @@
 -- `batch::digits_at` meets its contract: by the definition's test. Assumes nothing.
 use borrow.Author.Needs.{needs}
-use Rattle.batch.specs.Header.{digitsAt}
+use Rattle.batch.specs.Header.{digitsStart}
 use Rattle.batch.proofs.digits_at.Statement.{statement}
 use Rattle.batch.proofs.digits_at.Tie as tie
 
 returns : tie.Need-returns
-unfolding digitsAt
+unfolding digitsStart
 returns c = rw (← c .before .begins .ensures, c .if1 .taken)
 
 returns-2 : tie.Need-returns-2
-unfolding digitsAt
+unfolding digitsStart
 returns-2 c = rw (← c .before .begins .ensures, c .if1 .left)
 
 pub digits-at-spec : {M : Type 1} → statement M

@@ -6,23 +6,23 @@ use native.Mathlib.Omega.{arith}
 use lib.ListN.{length, drop}
 use borrow.Author.Needs.{needs}
 use borrow.Author.Tests.{le-leb, lt-leb}
-use Rattle.batch.specs.Header.{sizeAfter, sizeOf}
+use Rattle.batch.specs.Header.{sizeAfter, sizeWritten}
 use Rattle.batch.proofs.Laws.{size-more, size-end}
 use Rattle.batch.proofs.size_of.Statement.{statement}
 use Rattle.batch.proofs.size_of.Tie as tie
 
 abbrev Inv-loop : tie.InvT-loop
-Inv-loop line at n₀ i₀ n i = sizeOf line ≡ sizeAfter n (drop i line)
+Inv-loop line at n₀ i₀ n i = sizeWritten line ≡ sizeAfter n (drop i line)
 
 abbrev μ-loop : tie.MeasureT-loop
 μ-loop line at n₀ i₀ n i = length line - i
 
 returns : tie.Need-returns Inv-loop μ-loop
-unfolding sizeOf
+unfolding sizeWritten
 returns c = rw (← c .before .digits-at .ensures, le-leb _ _ (c .if1 .taken))
 
 loop-holds : tie.Need-loop-holds Inv-loop μ-loop
-unfolding sizeOf
+unfolding sizeWritten
 loop-holds c = rw (← c .before .digits-at .ensures, lt-leb _ _ (c .if1 .left))
 
 loop-again : tie.Need-loop-again Inv-loop μ-loop

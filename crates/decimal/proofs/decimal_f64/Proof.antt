@@ -8,7 +8,7 @@ use Prim.Native.Nat.{_^_}
 use native.Mathlib.Omega.{arith}
 use lib.Dec.{le→leb}
 use lib.Ieee.{binary64, neg, mul, div, inFloat}
-use Rattle.decimal.specs.Decimal.{whole, operated}
+use Rattle.decimal.specs.Decimal.{wholeNumber, operated}
 use Rattle.decimal.proofs.Laws.{fits-digits, fits-power, operated-sign, made}
 use Rattle.decimal.proofs.decimal_f64.Statement.{statement}
 use Rattle.decimal.proofs.decimal_f64.Tie as tie
@@ -35,8 +35,8 @@ unfolding operated
 plain c =
     let m = c .before .before .args .m in
     ⊎-elim
-    (λ w. rw (w .1 .given .1) (w .4 ∙ ap (mul binary64 (whole m)) (w .3 .ensures)))
-    (λ w. rw (w .1 .given .1) (w .4 ∙ ap (div binary64 (whole m)) (w .3 .ensures)))
+    (λ w. rw (w .1 .given .1) (w .4 ∙ ap (mul binary64 (wholeNumber m)) (w .3 .ensures)))
+    (λ w. rw (w .1 .given .1) (w .4 ∙ ap (div binary64 (wholeNumber m)) (w .3 .ensures)))
     (c .match .came)
 
 returns : tie.Need-returns

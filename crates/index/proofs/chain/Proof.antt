@@ -7,18 +7,18 @@ use Prim.Native.Nat.{_+_, _≤_}
 use native.Mathlib.Omega.{arith}
 use lib.ListN.{length}
 use Rattle.record.specs.Decode.{countOf}
-use Rattle.index.specs.Chains.{chains as heads, most, room}
+use Rattle.index.specs.Chains.{chains as heads, mostEntries, roomFor}
 use Rattle.index.proofs.Drawn.{drawn-length}
 use Rattle.index.proofs.Links.{says-room, links-none, made, made-not}
 use Rattle.index.proofs.chain.Statement.{statement}
 use Rattle.index.proofs.chain.Tie as tie
 
 -- there is room
-roomy : (c : tie.Else1) → let a = c .before .before .before .before .before .args in room (countOf (a .records .now)) (length (a .chains .now)) ≡ true
+roomy : (c : tie.Else1) → let a = c .before .before .before .before .before .args in roomFor (countOf (a .records .now)) (length (a .chains .now)) ≡ true
 roomy c = sym (c .before .room .ensures) ∙ not-false _ (c .if1 .left)
 
 fits : (c : tie.Else1) → let a = c .before .before .before .before .before .args in
-    (countOf (a .records .now) ≤ most) × (heads + countOf (a .records .now) ≤ length (a .chains .now))
+    (countOf (a .records .now) ≤ mostEntries) × (heads + countOf (a .records .now) ≤ length (a .chains .now))
 fits c = says-room _ _ .so (roomy c)
 
 returns : tie.Need-returns

@@ -6,7 +6,7 @@ use mathlib.Core.Bool.{true}
 use native.Mathlib.Omega.{arith}
 use lib.ListN.{length}
 use Rattle.record.specs.Decode.{countOf}
-use Rattle.index.specs.Chains.{room, walkOf}
+use Rattle.index.specs.Chains.{roomFor, walkOf}
 use Rattle.index.proofs.Laws.{hash-append}
 use Rattle.index.proofs.Drawn.{drawn-length}
 use Rattle.index.proofs.Links.{says-room}
@@ -14,7 +14,7 @@ use Rattle.index.proofs.find_two.Statement.{statement}
 use Rattle.index.proofs.find_two.Tie as tie
 
 -- there is room
-roomy : (c : tie.Else1) → let a = c .before .before .before .before .before .before .before .args in room (countOf (a .records .now)) (length (a .chains .now)) ≡ true
+roomy : (c : tie.Else1) → let a = c .before .before .before .before .before .before .before .args in roomFor (countOf (a .records .now)) (length (a .chains .now)) ≡ true
 roomy c = sym (c .before .room .ensures) ∙ not-false _ (c .if1 .left)
 
 returns : tie.Need-returns

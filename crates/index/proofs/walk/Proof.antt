@@ -7,7 +7,7 @@ use native.Mathlib.Omega.{arith}
 use lib.ListN.{length}
 use Rattle.record.specs.Decode.{countOf}
 use Rattle.index.specs.Labels.{drawn}
-use Rattle.index.specs.Chains.{chains, most, walk}
+use Rattle.index.specs.Chains.{chains, mostEntries, walk}
 use Rattle.index.proofs.Drawn.{drawn-length}
 use Rattle.index.proofs.Links.{says-room}
 use Rattle.index.proofs.Found.{rest-from, walk-past, enough, rest-here, rest-stop, rest-next}
@@ -53,7 +53,7 @@ returns-3 c = let l = c .before .loop in l .inv .0 ∙ sym (l .inv .1 ∙ walk-p
 
 -- the next of a record that is there lies inside the table
 next-inside : (c : tie.Else1 Inv-loop μ-loop) → let a = c .before .before .before .before .before .before .before .before .before .args in
-    (c .before .before .before .loop .i < countOf (a .records .now)) × ((countOf (a .records .now) ≤ most) × (chains + countOf (a .records .now) ≤ length (a .chains .now)))
+    (c .before .before .before .loop .i < countOf (a .records .now)) × ((countOf (a .records .now) ≤ mostEntries) × (chains + countOf (a .records .now) ≤ length (a .chains .now)))
 next-inside c = (c .before .before .loop-test .taken, says-room _ _ .so (c .before .before .before .before .before .before .before .before .before .pre))
 
 pub walk-spec : {M : Type 1} → statement M

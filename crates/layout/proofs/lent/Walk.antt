@@ -55,7 +55,7 @@ use Rattle.layout.proofs.lent.next_of.Symbol.{name as #layout·lent·ne
 use denote.Struct.Declared as D
 use denote.Struct.Declared.{Declared, fields}
 use denote.Struct.Struct.{Plains, layout}
-use Rattle.layout.specs.Slots.{Shape}
+use Rattle.layout.specs.Slots.{Figure}
 use Rattle.layout.specs.Push.{Push as Puts, PushLent, state}
 use Rattle.layout.specs.Steps.{nextAfter}
 use Rattle.layout.proofs.Laws.{next-is}
@@ -65,7 +65,7 @@ abbrev pub Next : {M : Type 1} (𝓤 : URA M) (H : Heap 𝓤) → Atoms 𝓤 →
 Next 𝓤 H A at-mem run = tripleOf 𝓤 H A next.signature (next.spec 𝓤 H A at-mem run)
 
 -- T is the shape's struct, `shape` the shape that it stands for, and `push` the push that is called
-module _ (T : Declared) (laws : LL.Laws T) (plains : Plains (fields T)) (shape : T .D → Shape) (push : Name) where
+module _ (T : Declared) (laws : LL.Laws T) (plains : Plains (fields T)) (shape : T .D → Figure) (push : Name) where
   -- the struct's row: it is seen at exit as it was passed
   abbrev row : RattleType
   row = record { Denot = T .D; mir = D.row T .mir; written = D.row T .written; reaches = D.row T .reaches; own = D.row T .own; exit = λ k. unchanged; coded = D.row T .coded }

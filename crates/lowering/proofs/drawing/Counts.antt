@@ -7,13 +7,14 @@ use native.Mathlib.Nat.{le-refl}
 use native.Mathlib.Omega.{arith}
 use lib.ListN.{length, getD, take, drop, length-append}
 use lib.Seq.{take-length}
+use Rattle.ground.specs.Lists.{upTo}
 use Rattle.refusal.proofs.Says.{says-eq}
 use Rattle.layout.specs.Slots as layout
 use Rattle.layout.proofs.Laws.{can-be}
 use Rattle.layout.specs.Refusals.{impossible}
 use Rattle.record.specs.Kinds.{firstRule, lastRule}
-use Rattle.record.specs.Entry.{Label, Entry, noEntry, entryAt, labelNo, upTo}
-use Rattle.record.proofs.UpTo.{getD-up-to}
+use Rattle.record.specs.Entry.{Label, Entry, noEntry, entryAt, labelNo}
+use Rattle.ground.proofs.UpTo.{getD-up-to}
 use Rattle.index.specs.Labels.{kindNo, within}
 use Rattle.drawing.specs.Needs.{Shape, point, circle, arc, declaring}
 use Rattle.drawing.specs.declared.Checked.the-variants as checked

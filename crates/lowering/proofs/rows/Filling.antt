@@ -15,11 +15,11 @@ use Rattle.layout.proofs.Onward.{over-front}
 use Rattle.record.specs.declared.Record.{Record}
 use Rattle.record.specs.Kinds.{labelsColumn, table, cell, firstRule, lastRule}
 use Rattle.record.specs.Decode.{decodeAt}
-use Rattle.record.specs.Entry.{Entry, entryAt, labelNo, entryOf, upTo}
+use Rattle.record.specs.Entry.{Entry, entryAt, labelNo, entryOf}
 use Rattle.index.specs.Labels.{drawn, within}
 use Rattle.index.proofs.Drawn.{drawn-at}
 use Rattle.drawing.proofs.Laws.{labels-read}
-use Rattle.ground.specs.Lists.{flat}
+use Rattle.ground.specs.Lists.{flat, upTo}
 use Rattle.row.specs.Row.{mostIds, rowBytes, eight, bytesOf, encodeRow}
 use Rattle.lowering.specs.Rows.{namingOf}
 use Rattle.lowering.specs.Lower.{onto}

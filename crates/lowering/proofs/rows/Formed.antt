@@ -13,7 +13,7 @@ use Rattle.refusal.proofs.Says.{says-all, says-so}
 use Rattle.layout.specs.Slots.{idsEnd}
 use Rattle.record.specs.Kinds.{firstRule, lastRule, Rule}
 use Rattle.record.specs.Entry.{Entry, noEntry, entryAt}
-use Rattle.record.proofs.UpTo.{getD-up-to}
+use Rattle.ground.proofs.UpTo.{getD-up-to}
 use Rattle.index.specs.Labels.{kindNo}
 use Rattle.index.proofs.Laws.{says-within}
 use Rattle.row.specs.Row.{Row, held, mostIds, encodeRows, RowFits}

@@ -27,7 +27,7 @@ use Rattle.ground.specs.Lists.{flat}
 use Rattle.lowering.specs.Slots.{slots, size, firstSlot}
 use Rattle.row.specs.Row.{mostIds}
 use Rattle.lowering.specs.Rows.{part, namingOf, names, idsWhere, namedIds}
-use Rattle.lowering.specs.Offsets.{componentAt, widthOf, idsAt, idsOfKind}
+use Rattle.lowering.specs.Offsets.{componentAt, widthOf, widthAt, idsOfKind}
 use Rattle.lowering.specs.Demand.{slotAt, Declares, Carries}
 use Rattle.ground.proofs.Pieces.{sum-flat}
 use Rattle.lowering.specs.Steps.{sizeBy, endsIn, stemOf, centerSpan, spanOf}
@@ -106,7 +106,7 @@ pub record WorkedOut (es : List Entry) (next : ℕ) (e : Entry) (q : ℕ) : Type
   pub count : ℕ
   pub some : 0 < count
   pub inside : first + count ≤ size shape
-  pub wide : count ≡ idsAt (e .kind) q
+  pub wide : count ≡ widthAt (e .kind) q
   pub span : spanOf es (namingOf (e .kind)) (e .third) (labelNo e q) ≡ record { shape = at; first = first; count = count }
   pub ids-are : namedIds es next e (labelNo e q) ≡ onward (next + (firstSlot shape es at + first)) count
 
@@ -125,7 +125,7 @@ sizes arc = (omega arith, omega arith, refl)
 module _ (es : List Entry) (w : Fine es) (next : ℕ) (e : Entry) where
   -- the x or y of a point or a center
   module _ (s : Shape) (u : Label) (p : PairPart s u) (o : XY (e .third)) where
-    parted : (j q : ℕ) → Declares es j s → 1 ≡ idsAt (e .kind) q → spanOf es (namingOf (e .kind)) (e .third) (labelNo e q) ≡ centerSpan es (e .third) (nameNo es j)
+    parted : (j q : ℕ) → Declares es j s → 1 ≡ widthAt (e .kind) q → spanOf es (namingOf (e .kind)) (e .third) (labelNo e q) ≡ centerSpan es (e .third) (nameNo es j)
         → namedIds es next e (labelNo e q) ≡ idsWhere (names part (e .third) (nameNo es j ++ u)) next (slots es) → WorkedOut es next e q
     parted j q d one span ids = record {
       at = j;
@@ -213,7 +213,7 @@ module _ (es : List Entry) (w : Fine es) (next i : ℕ) (h : i < length es) (u :
   -- it has as many ids as the table tells, and eight at most
   pub ids-count : length (flat (namedIds es next e) (e .labels)) ≡ idsOfKind (e .kind)
   ids-count =
-      sum-flat (namedIds es next e) (idsAt (e .kind)) (e .labels) []
+      sum-flat (namedIds es next e) (widthAt (e .kind)) (e .labels) []
       (λ q g. let k = worked-out q (rw label-count at g) in rw (k .ids-are, length-onward _ (k .count)) (k .wide))
       ∙ rw label-count refl
 

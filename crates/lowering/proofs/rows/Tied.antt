@@ -12,12 +12,12 @@ use Rattle.layout.specs.Push.{onward}
 use Rattle.layout.proofs.Onward.{length-onward, getD-onward}
 use Rattle.record.specs.Record.{mostRecords}
 use Rattle.record.specs.Kinds.{Rule, firstRule, lastRule}
-use Rattle.record.specs.Entry.{Entry, noEntry, entryAt, labelNo, upTo}
-use Rattle.record.proofs.UpTo.{length-up-to, getD-up-to}
+use Rattle.record.specs.Entry.{Entry, noEntry, entryAt, labelNo}
+use Rattle.ground.proofs.UpTo.{length-up-to, getD-up-to}
 use Rattle.index.specs.Labels.{kindNo, within}
 use Rattle.index.proofs.Laws.{says-within}
 use Rattle.drawing.specs.Needs.{Shape, point, circle, arc, declaring}
-use Rattle.ground.specs.Lists.{flat}
+use Rattle.ground.specs.Lists.{flat, upTo}
 use Rattle.ground.proofs.Pieces.{Each, each-of}
 use Rattle.row.specs.Row.{encodeRows}
 use Rattle.lowering.specs.Slots.{slots, size, before, layoutOf, firstSlot}

@@ -6,8 +6,9 @@ use Prim.Native.Nat.{ℕ, _+_, _-_, _≤_, _<_}
 use native.Mathlib.Omega.{arith}
 use lib.ListN.{length, getD, length-append, List·getD-append}
 use lib.Seq.{getD-append-add}
+use Rattle.ground.specs.Lists.{upTo}
 use Rattle.refusal.specs.First.{EachBelow}
-use Rattle.record.specs.Entry.{Label, Entry, upTo}
+use Rattle.record.specs.Entry.{Label, Entry}
 use Rattle.index.specs.Labels.{kindNo, nameNo}
 use Rattle.drawing.specs.Needs.{Shape, point, circle, arc}
 use Rattle.lowering.specs.Slots.{Slot, slotsOfShape, slots, size, firstSlot}

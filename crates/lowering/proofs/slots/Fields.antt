@@ -7,11 +7,12 @@ use native.Mathlib.Omega.{arith}
 use lib.ListN.{length, getD, set, length-set}
 use lib.Seq.{getD-set-same, getD-set-other}
 use lib.Ieee.{Float, nan}
+use Rattle.ground.specs.Lists.{upTo}
 use Rattle.refusal.specs.First.{EachBelow}
 use Rattle.layout.specs.Slots as layout
 use Rattle.layout.specs.Parts.{shapeAt}
 use Rattle.layout.proofs.Parts.{reads}
-use Rattle.record.specs.Entry.{Label, Entry, upTo}
+use Rattle.record.specs.Entry.{Label, Entry}
 use Rattle.index.specs.Labels.{nameNo}
 use Rattle.drawing.specs.Needs.{Shape, point, circle, arc}
 use Rattle.lowering.specs.Slots.{Slot, slotsOfShape, slots, size, before, kindFor, layoutOf, firstSlot}
@@ -24,7 +25,7 @@ use Rattle.lowering.proofs.slots.Components.{slot-of, place-is}
 -- ---- the fields of a shape, in the order of its components' names
 
 module _ (vs : List Float) (at : ℕ) where
-  abbrev shape : Shape → layout.Shape
+  abbrev shape : Shape → layout.Figure
   shape s = shapeAt (kindFor s) vs at
 
   first : getD vs at nan ≡ getD vs (at + 0) nan

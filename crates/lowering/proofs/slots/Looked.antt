@@ -5,6 +5,7 @@ use mathlib.Core.List.{List, map}
 use Prim.Native.Nat.{ℕ, _+_, _≤_, _<_}
 use native.Mathlib.Omega.{arith}
 use lib.ListN.{length, getD, drop, length-append, List·getD-append}
+use Rattle.ground.specs.Lists.{upTo}
 use Rattle.layout.specs.declared.PointIds.the-variants as PI
 use Rattle.layout.specs.declared.CircleIds.the-variants as CI
 use Rattle.layout.specs.declared.ArcIds.the-variants as AI
@@ -16,7 +17,7 @@ use Rattle.refusal.proofs.Once.{answered-passed}
 use Rattle.layout.specs.Push.{onward}
 use Rattle.layout.proofs.Onward.{length-onward, getD-onward}
 use Rattle.layout.proofs.Laws.{look-passes}
-use Rattle.record.specs.Entry.{Label, Entry, upTo}
+use Rattle.record.specs.Entry.{Label, Entry}
 use Rattle.index.specs.Labels.{nameNo}
 use Rattle.drawing.specs.Needs.{Shape, point, circle, arc}
 use Rattle.lowering.specs.Slots.{Slot, slotsOfShape, slots, size, before, kindFor, layoutOf, firstSlot}

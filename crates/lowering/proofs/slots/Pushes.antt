@@ -13,7 +13,7 @@ use Rattle.layout.specs.declared.Circle.{Circle}
 use Rattle.layout.specs.declared.Arc.{Arc}
 use Rattle.layout.specs.Slots as layout
 use Rattle.layout.specs.Push.{State, state, onward, after}
-use Rattle.layout.specs.Run.{Act, push, done, act, run, allComponents, shapesOf, runOf, Room}
+use Rattle.layout.specs.Run.{Act, push, done, act, run, allComponents, shapesOf, runOf, RunRoom}
 use Rattle.layout.proofs.Onward.{length-onward}
 use Rattle.layout.proofs.Runs.{Kept, kept, all-append}
 use Rattle.layout.proofs.Claims.{all-accepted}
@@ -35,7 +35,7 @@ run-append [] ys s = refl
 run-append (a ∷ xs) ys s = run-append xs ys (act a s)
 
 module _ (es : List Entry) (s : Shape) where
-  abbrev shapes : List Label → List layout.Shape
+  abbrev shapes : List Label → List layout.Figure
   shapes ls = map (shapeFor es s) ls
 
   -- the shapes of a kind among some records
@@ -111,7 +111,7 @@ module _ (es : List Entry) (next : ℕ) (ids : List ℕ) (values : List Float) (
   counted : {X : Type 0} (s : Shape) (f : Label → X) → length (map f (labelsOf s es)) ≡ howMany s es
   counted s f = length-map (labelsOf s es) f ∙ labels-all es s
 
-  room : Room first (length (points es)) (length (circles es)) (length (arcs es))
+  room : RunRoom first (length (points es)) (length (circles es)) (length (arcs es))
   room =
       rw (counted point (λ l. pairFor es l []), counted circle (circleFor es), counted arc (arcFor es))
       (record {

@@ -24,7 +24,7 @@ use Rattle.lowering.specs.Steps.{shapeFor, shapeOf, layoutAfter, layoutT
 -- ---- a push
 
 -- the layout and the next id after a push, with the slices after it, are the state after it
-pub push-state : (shape : layout.Shape) (l : Layout) (next : ℕ) (ids : List ℕ) (values : List Float) (r : Pushed) (ids′ : List ℕ) (values′ : List Float)
+pub push-state : (shape : layout.Figure) (l : Layout) (next : ℕ) (ids : List ℕ) (values : List Float) (r : Pushed) (ids′ : List ℕ) (values′ : List Float)
     → Push shape (state l next ids values) r ids′ values′ → state (layoutAfter r l) (nextAfter r next) ids′ values′ ≡ after shape (state l next ids values)
 push-state shape l next ids values r ids′ values′ p =
     let s = state l next ids values in

@@ -2,9 +2,9 @@
 use borrow.Author.Needs.{needs}
 use mathlib.Core.List.{List, _∷_, _++_}
 use Prim.Native.Nat.{ℕ}
+use Rattle.ground.specs.Lists.{upTo}
 use Rattle.bytes.specs.Little.{byte}
 use Rattle.record.specs.Record.{mark}
-use Rattle.record.specs.Entry.{upTo}
 use Rattle.record.proofs.instruction_bytes.Statement.{statement}
 use Rattle.record.proofs.instruction_bytes.Tie as tie
 

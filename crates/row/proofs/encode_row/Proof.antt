@@ -1,8 +1,7 @@
 -- `row::encode_row` meets its contract: each number is written to its bytes. Assumes nothing.
 use mathlib.Core.List.{[], _∷_, _++_}
-use Rattle.ground.specs.Lists.{flat}
+use Rattle.ground.specs.Lists.{flat, upTo}
 use Rattle.bytes.specs.Little.{byte}
-use Rattle.record.specs.Entry.{upTo}
 use Rattle.row.specs.Row.{rowMark, bytesOf}
 use borrow.Author.Needs.{needs}
 use Rattle.row.proofs.encode_row.Statement.{statement}

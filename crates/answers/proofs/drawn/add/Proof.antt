@@ -5,7 +5,7 @@ use Prim.Native.Nat.{_-_, _/_, _≤_}
 use native.Mathlib.Omega.{arith}
 use lib.ListN.{length}
 use borrow.Author.Needs.{needs}
-use Rattle.record.specs.Entry.{upTo}
+use Rattle.ground.specs.Lists.{upTo}
 use Rattle.row.specs.Row.{rowBytes, decodeRow, rowOf}
 use Rattle.rail.specs.Words.{joined}
 use Rattle.lines.specs.Drawn.{rowLine}

@@ -6,7 +6,7 @@ use native.Mathlib.Omega.{arith}
 use lib.ListN.{length, getD}
 use lib.Ieee.{nan}
 use borrow.Author.Needs.{needs}
-use Rattle.record.specs.Entry.{upTo}
+use Rattle.ground.specs.Lists.{upTo}
 use Rattle.rail.specs.Words.{joined}
 use Rattle.lines.specs.Drawn.{slotLine}
 use Rattle.rail.proofs.Added.{said, added, Behind, behind-none, behind-more}

@@ -5,8 +5,9 @@ use Prim.Native.Nat.{_-_, _≤_}
 use native.Mathlib.Omega.{arith}
 use lib.ListN.{length}
 use borrow.Author.Needs.{needs}
+use Rattle.ground.specs.Lists.{upTo}
 use Rattle.record.specs.Decode.{countOf, decodeAt}
-use Rattle.record.specs.Entry.{upTo, entryOf}
+use Rattle.record.specs.Entry.{entryOf}
 use Rattle.rail.specs.Words.{joined}
 use Rattle.lines.specs.Lines.{lineOf}
 use Rattle.rail.proofs.Added.{said, added, Behind, behind-none, behind-more}

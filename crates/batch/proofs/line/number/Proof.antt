@@ -5,13 +5,13 @@ use Prim.Native.Nat.{_-_, _≤_}
 use native.Mathlib.Omega.{arith}
 use lib.ListN.{length, drop}
 use borrow.Author.Needs.{needs}
-use Rattle.batch.specs.Line.{numberOf, numberFrom}
+use Rattle.batch.specs.Line.{wordNumber, numberFrom}
 use Rattle.batch.proofs.Ends.{word-le, number-more, number-end}
 use Rattle.batch.proofs.line.number.Statement.{statement}
 use Rattle.batch.proofs.line.number.Tie as tie
 
 abbrev Inv-loop : tie.InvT-loop
-Inv-loop line k word₀ n₀ i₀ word n i = (word ≤ i) × (numberOf k line ≡ numberFrom k word n (drop i line))
+Inv-loop line k word₀ n₀ i₀ word n i = (word ≤ i) × (wordNumber k line ≡ numberFrom k word n (drop i line))
 
 abbrev μ-loop : tie.MeasureT-loop
 μ-loop line k word₀ n₀ i₀ word n i = length line - i

@@ -6,8 +6,8 @@ use Prim.Native.Nat.{ℕ, _-_, _≤_, _<_}
 use native.Mathlib.Omega.{arith}
 use lib.ListN.{length, getD}
 use borrow.Author.Needs.{needs}
+use Rattle.ground.specs.Lists.{upTo}
 use Rattle.print.specs.Print.{decimalOf}
-use Rattle.record.specs.Entry.{upTo}
 use Rattle.row.specs.Row.{idsIn, mostIds}
 use Rattle.rail.specs.declared.Place.{Place}
 use Rattle.rail.specs.Words.{spaced}

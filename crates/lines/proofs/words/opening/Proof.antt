@@ -6,7 +6,8 @@ use Prim.Native.Nat.{ℕ, _-_, _≤_}
 use native.Mathlib.Omega.{arith}
 use lib.ListN.{length}
 use borrow.Author.Needs.{needs}
-use Rattle.record.specs.Entry.{named, upTo}
+use Rattle.ground.specs.Lists.{upTo}
+use Rattle.record.specs.Entry.{named}
 use Rattle.rail.specs.declared.Place.{Place}
 use Rattle.rail.specs.Words.{spaced}
 use Rattle.rail.specs.Steps.{Adds}

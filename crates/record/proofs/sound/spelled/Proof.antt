@@ -3,8 +3,8 @@ use borrow.Author.Needs.{needs}
 use mathlib.Core.Path.{ap, _∙_}
 use mathlib.Core.Logic.{⊎-elim}
 use lib.ListN.{length}
-use Rattle.text.specs.declared.Label.{Label}
-use Rattle.record.specs.Sound.{reads, spelledTest}
+use Rattle.text.specs.declared.ReadLabel.{ReadLabel}
+use Rattle.record.specs.Sound.{readsAll, spelledTest}
 use Rattle.record.proofs.sound.spelled.Statement.{statement}
 use Rattle.record.proofs.sound.spelled.Tie as tie
 
@@ -13,8 +13,8 @@ unfolding spelledTest
 returns c =
     let n = length (c .before .before .before .before .args .label .now) in
     ⊎-elim
-    (λ w. rw (w .0 .taken) (ap (λ (l : Label). reads l n) (w .2 ∙ w .1 .ensures)))
-    (λ w. rw (w .0 .left) (ap (λ (l : Label). reads l n) (w .2 ∙ w .1 .ensures)))
+    (λ w. rw (w .0 .taken) (ap (λ (l : ReadLabel). readsAll l n) (w .2 ∙ w .1 .ensures)))
+    (λ w. rw (w .0 .left) (ap (λ (l : ReadLabel). readsAll l n) (w .2 ∙ w .1 .ensures)))
     (c .before .before .if1 .came)
 
 pub spelled-spec : {M : Type 1} → statement M

@@ -1,14 +1,11 @@
--- The laws of the list f 0, f 1, .., up to a count: its length, what stands at a place, and which lists are such a list. And what holds of each
--- label place of a record. Assumes nothing.
+-- The laws of the list f 0, f 1, .., up to a count: its length, what stands at a place, and which lists are such a list. Assumes nothing.
 use mathlib.Core.Path.{_≡_, refl, ap, _∙_}
 use mathlib.Core.List.{List, [], _∷_, _++_, map, map-id}
 use Prim.Native.Nat.{ℕ, zero, suc, _+_, _<_}
 use native.Mathlib.Nat.{le-of-suc-le-suc, not-suc-le-zero}
 use native.Mathlib.Omega.{arith}
 use lib.ListN.{length, getD}
-use Rattle.refusal.specs.First.{EachBelow}
-use Rattle.record.specs.Record.{labelPlaces}
-use Rattle.record.specs.Entry.{upTo}
+use Rattle.ground.specs.Lists.{upTo}
 
 module _ {A : Type 0} where
   pub length-up-to : (n : ℕ) (f : ℕ → A) → length (upTo n f) ≡ n
@@ -28,7 +25,7 @@ module _ {A : Type 0} where
       rw e (ap (λ (l : List A). f zero ∷ l) (up-to-more n (λ k. f (suc k))))
 
   -- the same at each place below a count
-  pub up-to-same : (n : ℕ) (f g : ℕ → A) → EachBelow n (λ i. f i ≡ g i) → upTo n f ≡ upTo n g
+  pub up-to-same : (n : ℕ) (f g : ℕ → A) → ((i : ℕ) → i < n → f i ≡ g i) → upTo n f ≡ upTo n g
   up-to-same zero f g h = refl
   up-to-same (suc n) f g h =
       rw (h zero (omega arith)) (ap (λ (l : List A). g zero ∷ l) (up-to-same n (λ k. f (suc k)) (λ k. g (suc k)) (λ i b. h (suc i) (omega arith))))
@@ -39,13 +36,10 @@ module _ {A : Type 0} where
   up-to-map {B} (x ∷ xs) d g = ap (λ (l : List B). g x ∷ l) (up-to-map xs d g)
 
   -- a list by what stands at its places
-  pub up-to-list : (n : ℕ) (l : List A) (d : A) (f : ℕ → A) → length l ≡ n → EachBelow n (λ q. f q ≡ getD l q d) → upTo n f ≡ l
+  pub up-to-list : (n : ℕ) (l : List A) (d : A) (f : ℕ → A) → length l ≡ n → ((q : ℕ) → q < n → f q ≡ getD l q d) → upTo n f ≡ l
   up-to-list n l d f e h = up-to-same n f (λ q. getD l q d) h ∙ rw (← e) (up-to-map l d (λ x. x) ∙ map-id l)
 
--- the label places one by one
-pub each-place : (P : ℕ → Type 0) → P 0 → P 1 → P 2 → P 3 → EachBelow labelPlaces P
-each-place P a b c d zero h = a
-each-place P a b c d (suc zero) h = b
-each-place P a b c d (suc (suc zero)) h = c
-each-place P a b c d (suc (suc (suc zero))) h = d
-each-place P a b c d (suc (suc (suc (suc q)))) h = absurd (omega arith)
+  -- what g makes of each
+  pub map-up-to : {B : Type 0} (g : A → B) (n : ℕ) (f : ℕ → A) → map g (upTo n f) ≡ upTo n (λ q. g (f q))
+  map-up-to g zero f = refl
+  map-up-to {B} g (suc n) f = ap (λ (l : List B). g (f zero) ∷ l) (map-up-to g n (λ k. f (suc k)))
