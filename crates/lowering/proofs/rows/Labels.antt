@@ -21,7 +21,7 @@ use Rattle.record.specs.Sound.{Sound}
 use Rattle.index.specs.Labels.{kindNo, nameNo, same}
 use Rattle.index.proofs.Laws.{says-same}
 use Rattle.drawing.specs.Needs as needs
-use needs.{Shape, point, circle, arc, declaring, Need, needAt}
+use needs.{Shape, point, circle, arc, Need, needAt}
 use Rattle.drawing.specs.Faults.{Named, Meets}
 use Rattle.ground.specs.Lists.{flat}
 use Rattle.lowering.specs.Slots.{slots, size, firstSlot}
@@ -30,11 +30,11 @@ use Rattle.lowering.specs.Rows.{part, namingOf, names, idsWhere, namedId
 use Rattle.lowering.specs.Offsets.{componentAt, widthOf, idsAt, idsOfKind}
 use Rattle.lowering.specs.Demand.{slotAt, Declares, Carries}
 use Rattle.ground.proofs.Pieces.{sum-flat}
-use Rattle.lowering.specs.Steps.{sizeBy, endsIn, stemOf, centerSpan, spanOf}
+use Rattle.lowering.specs.Steps.{endsIn, stemOf, centerSpan, spanOf}
 use Rattle.lowering.proofs.drawing.Fine.{Fine, NoDot, plain-no-dot, plain-name}
 use Rattle.lowering.proofs.drawing.Found.{declared-found}
 use Rattle.lowering.proofs.ids.Tested.{by-test, ids-named, ids-has, ids-rise}
-use Rattle.lowering.proofs.ids.Named.{says-names, PairPart, the-point, circle-center, arc-center, XY, the-x, the-y, stands, ids-whole, ids-part}
+use Rattle.lowering.proofs.ids.Named.{sizes, says-names, PairPart, the-point, circle-center, arc-center, XY, the-x, the-y, stands, ids-whole, ids-part}
 
 -- ---- what the table needs
 
@@ -116,11 +116,6 @@ xy zero h g = absurd (omega (arith, g))
 xy (suc zero) h g = the-x
 xy (suc (suc zero)) h g = the-y
 xy (suc (suc (suc a))) h g = absurd (omega (arith, h))
-
-pub sizes : (s : Shape) → (0 < size s) × (size s ≤ 6) × (sizeBy (declaring s) ≡ size s)
-sizes point = (omega arith, omega arith, refl)
-sizes circle = (omega arith, omega arith, refl)
-sizes arc = (omega arith, omega arith, refl)
 
 module _ (es : List Entry) (w : Fine es) (next : ℕ) (e : Entry) where
   -- the x or y of a point or a center

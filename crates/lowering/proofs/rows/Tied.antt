@@ -29,7 +29,8 @@ use Rattle.lowering.proofs.drawing.Fine.{Fine, fine}
 use Rattle.lowering.proofs.slots.Components.{slot-of}
 use Rattle.lowering.proofs.slots.Looked.{given-id, given-long, first, handed-back}
 use Rattle.lowering.proofs.ids.Six.{six-length}
-use Rattle.lowering.proofs.rows.Labels.{sizes, WorkedOut, worked-out, label-count, ids-few}
+use Rattle.lowering.proofs.ids.Named.{sizes}
+use Rattle.lowering.proofs.rows.Labels.{WorkedOut, worked-out, label-count, ids-few}
 use Rattle.lowering.proofs.rows.Bytes.{length-rows}
 
 -- two that agree on each element
