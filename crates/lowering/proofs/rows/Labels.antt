@@ -48,12 +48,9 @@ bare (c ∷ d ∷ cs) = false
 abbrev bareKind : ℕ → Bool
 bareKind k = ltb k 4 || ((eqb k fixComponent || eqb k fixCenter) || allBelow (kindAt k .labels) (λ q. bare (needAt k q)))
 
-bare-table : allBelow 24 bareKind ≡ true
-bare-table = refl
-
 bare-kind : (k : ℕ) → Rule k → (eqb k fixComponent || eqb k fixCenter) ≡ false → (q : ℕ) → q < kindAt k .labels → bare (needAt k q) ≡ true
 bare-kind k u a =
-    let t : bareKind k ≡ true = says-all bareKind (λ n. bareKind n ≡ true) (λ n. says-so) 24 .so bare-table k (omega (arith, u .1)) in
+    let t : bareKind k ≡ true = says-all bareKind (λ n. bareKind n ≡ true) (λ n. says-so) 24 .so refl k (omega (arith, u .1)) in
     says-all (λ q. bare (needAt k q)) (λ q. bare (needAt k q) ≡ true) (λ q. says-so) (kindAt k .labels) .so (rw (le-ltb k 4 (u .0), a) at t)
 
 -- no rule comes to more than eight ids: one computed test

@@ -30,16 +30,7 @@ module _ (es : List Entry) where
       each-of-all (Component es) es
       (λ s. each-slot (λ (l : Label). (i : ℕ) × Declares es i s × (nameNo es i ≡ l)) (Component es) s es
       (λ l d. each-of (Component es) (slotsOfShape s l) noSlot
-      (λ k h. (
-        d .0,
-        s,
-        k,
-        record {
-          declared = d .1;
-          one-of-it = subst (λ (n : ℕ). k < n) (length-shape s l) h;
-          is = ap (λ (z : Label). getD (slotsOfShape s z) k noSlot) (sym (d .2));
-        },
-      )))
+      (λ k h. (d .0, s, k, record { declared = d .1; one-of-it = rw (length-shape s l) at h; is = rw (d .2) refl })))
       (λ j d. (j, d, refl)))
 
   pub component-at : EachBelow (length (slots es)) (λ j. (i : ℕ) × (s : Shape) × (k : ℕ) × ComponentOf es i s k (slotAt es j))
