@@ -20,7 +20,7 @@ use Rattle.lowering.specs.Lower.{onto, roomIn}
 use Rattle.lowering.specs.Demand.{rulesBefore, CannotGoWrong, PassedLowersWell}
 use Rattle.lowering.proofs.answer.Ends.{short}
 use Rattle.lowering.proofs.answer.Lacking.{lower-good}
-use Rattle.lowering.proofs.drawing.Counts.{rules-all, slot-count, passed-with}
+use Rattle.lowering.proofs.drawing.Counts.{rules-all, slot-count, passed-with, slot-number, rule-number}
 use Rattle.lowering.proofs.drawing.Fine.{Fine, fine}
 use Rattle.lowering.proofs.slots.Components.{one-component, slot-of}
 use Rattle.lowering.proofs.slots.Values.{starts, length-values, value-at}
@@ -60,8 +60,8 @@ pub lowers-well : PassedLowersWell
 lowers-well text bs P C A R next ids values rows checked enough r ids′ values′ rows′ call =
     let es = entries text bs in
     let p = passed-with es P C A R checked in
-    let n : length (slots es) ≡ 2 * P + 3 * C + 6 * A = p .slot-number ∙ omega arith in
-    let m = p .rule-number in
+    let n : length (slots es) ≡ 2 * P + 3 * C + 6 * A = slot-number p ∙ omega arith in
+    let m = rule-number p in
     let good = lower-good es (roomIn next ids values rows) (rw (n, m) enough) (p .none-found) in
     let left : next + length (slots es) ≤ idsEnd = rw n (enough .ids-left) in
     record {

@@ -36,7 +36,7 @@ use Rattle.lowering.specs.Rows.{rulesOf}
 use Rattle.lowering.specs.Lower.{Room, Lack, few-ids, short-slices, short-rows, lackNumber, lacking, lackOf, lowerOf, roomIn, Lowers}
 use Rattle.lowering.specs.Demand.{EnoughFor}
 use Rattle.lowering.specs.Steps.{Passing, Filled, lackTold}
-use Rattle.lowering.proofs.drawing.Counts.{count-le, PassedWith, passed-with}
+use Rattle.lowering.proofs.drawing.Counts.{count-le, PassedWith, passed-with, slot-number, rule-number}
 use Rattle.lowering.proofs.answer.Lacking.{lack-is, lower-good, lower-refused, lower-lacking}
 
 -- ---- what is lent, by the answer
@@ -118,7 +118,7 @@ module _ (text bs : List ℕ) {P C A R : ℕ} {answer : Checked} (told : answer 
     pub lacking-ends : (lack ≡ 0 → ⊥) → Lowers (entries text bs) next ids values rows (L.Refused (refusal lack 0)) ids values rows
     lacking-ends some =
         kept-all (entries text bs) next ids values rows (refusal lack 0)
-        (lack-ends (entries text bs) (roomIn next ids values rows) lack (counted .none-found) (rw (counted .slot-number, ← slots-are, counted .rule-number) (sym lack-is)) some)
+        (lack-ends (entries text bs) (roomIn next ids values rows) lack (counted .none-found) (rw (slot-number counted, ← slots-are, rule-number counted) (sym lack-is)) some)
 
     -- nothing lacks
     module _ (nothing : lack ≡ 0) where
@@ -126,7 +126,7 @@ module _ (text bs : List ℕ) {P C A R : ℕ} {answer : Checked} (told : answer 
       enough = enough-for (roomIn next ids values rows) n R (sym lack-is ∙ nothing)
 
       passing : Passing (entries text bs) next ids values rows
-      passing = record { passes = counted .none-found; few = short; enough = rw (counted .slot-number, ← slots-are, counted .rule-number) enough }
+      passing = record { passes = counted .none-found; few = short; enough = rw (slot-number counted, ← slots-are, rule-number counted) enough }
 
       -- the entries are those that the code reads
       pub passing-is : Passing (drawn text bs) next ids values rows
@@ -138,5 +138,5 @@ module _ (text bs : List ℕ) {P C A R : ℕ} {answer : Checked} (told : answer 
           let es = entries text bs in
           let f : Filled es next ids values rows l ids′ values′ rows′ = rw (entries-drawn text bs well-formed) filled in
           let good : lowerOf es (roomIn next ids values rows) ≡ L.Good (layoutOf es) (next + n) R =
-          lower-good es (roomIn next ids values rows) (passing .enough) (passing .passes) ∙ rw (counted .slot-number, ← slots-are, counted .rule-number) refl in
+          lower-good es (roomIn next ids values rows) (passing .enough) (passing .passes) ∙ rw (slot-number counted, ← slots-are, rule-number counted) refl in
           record { answer = rw (f .layout-is) (sym good); ids-are = f .ids-are ∙ rw good refl; values-are = f .values-are ∙ rw good refl; rows-are = f .rows-are ∙ rw good refl }

@@ -3,7 +3,7 @@ use mathlib.Core.Path.{_≡_, refl, sym, ap, _∙_}
 use mathlib.Core.Bool.{Bool, true, false, cond}
 use mathlib.Core.List.{List, [], _∷_, map}
 use Prim.Native.Nat.{ℕ, zero, suc, _+_, _*_, _≤_, _<_}
-use native.Mathlib.Nat.{le-refl}
+use native.Mathlib.Nat.{le-refl, add-zero}
 use native.Mathlib.Omega.{arith}
 use lib.ListN.{length, getD, take, drop, length-append}
 use lib.Seq.{take-length}
@@ -99,6 +99,9 @@ length-shape arc l = refl
 pub slots-by : {A : Type 0} (f : Slot → A) (g : ℕ → A) (d : A) (s : Shape) (l : Label) → map f (slotsOfShape s l) ≡ upTo (size s) g → (k : ℕ) → k < size s → f (getD (slotsOfShape s l) k noSlot) ≡ g k
 slots-by f g d s l e k h = sym (getD-map f (slotsOfShape s l) k noSlot d (rw (length-shape s l) h)) ∙ rw e (getD-up-to (size s) g k d h)
 
+pub at-first : {A : Type 0} (xs : List A) (at : ℕ) (d : A) → getD xs at d ≡ getD xs (at + 0) d
+at-first xs at d = rw add-zero refl
+
 pub length-of : (s : Shape) (es : List Entry) → length (slotsOf s es) ≡ length (labelsOf s es) * size s
 length-of s es = length-flat (slotsOfShape s) (size s) (labelsOf s es) (each-of (λ l. length (slotsOfShape s l) ≡ size s) (labelsOf s es) [] (λ j h. length-shape s _))
 
@@ -133,26 +136,19 @@ pub record PassedWith (es : List Entry) (P C A R : ℕ) : Type 0 where
   pub circles : C ≡ howMany circle es
   pub arcs : A ≡ howMany arc es
   pub rules : R ≡ rulesBefore es (length es)
-  pub slot-number : length (slots es) ≡ slotsFor P C A
-  pub rule-number : length (rulesOf es) ≡ R
 
 pub passed-with : (es : List Entry) (P C A R : ℕ) → checkedOf es ≡ checked.Passed P C A R → PassedWith es P C A R
 unfolding checkedOf
 passed-with es P C A R e = go (checkOf es) refl e
   where
     go : (o : Answer Fault) → checkOf es ≡ o → answer es o ≡ checked.Passed P C A R → PassedWith es P C A R
-    go passed f e =
-        let points : P ≡ howMany point es = cc in
-        let circles : C ≡ howMany circle es = cc in
-        let arcs : A ≡ howMany arc es = cc in
-        let rules : R ≡ rulesBefore es (length es) = cc in
-        record {
-          none-found = f;
-          points = points;
-          circles = circles;
-          arcs = arcs;
-          rules = rules;
-          slot-number = rw (points, circles, arcs) (omega (arith, length-slots es));
-          rule-number = rules-all es ∙ sym rules;
-        }
+    go passed f e = record { none-found = f; points = cc; circles = cc; arcs = cc; rules = cc }
     go (refused g j) f e = absurd (let z : _≡_ {A = ℕ} 0 1 = cc in omega arith)
+
+-- its slots and rules, by those counts
+module _ {es : List Entry} {P C A R : ℕ} (p : PassedWith es P C A R) where
+  pub slot-number : length (slots es) ≡ slotsFor P C A
+  slot-number = rw (p .points, p .circles, p .arcs) (omega (arith, length-slots es))
+
+  pub rule-number : length (rulesOf es) ≡ R
+  rule-number = rules-all es ∙ sym (p .rules)

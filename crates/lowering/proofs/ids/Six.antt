@@ -57,16 +57,14 @@ six-length l ids kind n =
     by-kind (λ (xs : List ℕ). length xs ≡ 6) kind 1 2 (pointSix (pointIds l ids n)) (circleSix (circleIds l ids n)) (arcSix (arcSlotIds l ids n))
     (six-of-point (pointIds l ids n)) (six-of-circle (circleIds l ids n)) (six-of-arc (arcSlotIds l ids n))
 
--- a span has as many ids as it says
-pub span-length : (es : List Entry) (l : Layout) (ids : List ℕ) (s : Span) → s .first + s .count ≤ 6 → length (spanIds es l ids s) ≡ s .count
-unfolding spanIds
-span-length es l ids s h =
-    let six = sixOf l ids (kindNo es (s .shape)) (numberNo es (s .shape)) in
-    length-take-le (s .count) (drop (s .first) six) (omega (arith, h, length-drop (s .first) six, six-length l ids (kindNo es (s .shape)) (numberNo es (s .shape))))
-
--- so has what a rule names by a label
+-- what a rule names by a label has as many ids as its span says
 pub label-length : (es : List Entry) (l : Layout) (ids : List ℕ) (n : Naming) (third : ℕ) (name : Label) → length (spanIds es l ids (spanOf es n third name)) ≡ spanOf es n third name .count
-label-length es l ids n third name = span-length es l ids (spanOf es n third name) (span-inside es third name n)
+unfolding spanIds
+label-length es l ids n third name =
+    let s = spanOf es n third name in
+    let six = sixOf l ids (kindNo es (s .shape)) (numberNo es (s .shape)) in
+    length-take-le (s .count) (drop (s .first) six)
+    (omega (arith, span-inside es third name n, length-drop (s .first) six, six-length l ids (kindNo es (s .shape)) (numberNo es (s .shape))))
 
 -- put behind the first m of a list
 pub added : (es : List Entry) (l : Layout) (ids : List ℕ) (n : Naming) (third : ℕ) (name : Label) (s : Span) → s ≡ spanOf es n third name
@@ -74,4 +72,4 @@ pub added : (es : List Entry) (l : Layout) (ids : List ℕ) (n : Naming) (third 
     → (was : List ℕ) (m : ℕ) (now : List ℕ) → now ≡ over was m (take (s .count) (drop (s .first) six)) → Added (spanIds es l ids (spanOf es n third name)) was m (m + s .count) now
 unfolding spanIds
 added es l ids n third name s es-is six k number e6 ek en was m now e =
-    rw (← es-is) (record { count-is = rw (span-length es l ids s (rw es-is (span-inside es third name n))) refl; list-is = e ∙ rw (e6, ek, en) refl })
+    record { count-is = rw (label-length es l ids n third name, es-is) refl; list-is = e ∙ rw (e6, ek, en, es-is) refl }

@@ -1,14 +1,15 @@
 -- The ids of the slots that pass a test: slot by slot. Assumes nothing.
-use mathlib.Core.Path.{_≡_, refl, sym, ap, _∙_}
+use mathlib.Core.Path.{_≡_, refl, ap}
 use mathlib.Core.Logic.{⊎-elim}
 use mathlib.Core.Bool.{Bool, true, false, cond}
-use mathlib.Core.List.{List, [], _∷_, _++_, append-nil, List·Memᴰ, List·Memᴰ·head, List·Memᴰ·tail, List·Memᴰ·cases-cons, List·Memᴰ·not-nil}
+use mathlib.Core.List.{List, [], _∷_, List·Memᴰ, List·Memᴰ·head, List·Memᴰ·tail, List·Memᴰ·cases-cons, List·Memᴰ·not-nil}
 use Prim.Native.Nat.{ℕ, zero, suc, _+_, _≤_, _<_, suc-le-suc}
-use native.Mathlib.Nat.{le-of-suc-le-suc, not-suc-le-zero, zero-lt-suc, le-refl, add-zero, suc-add, add-suc}
+use native.Mathlib.Nat.{le-of-suc-le-suc, not-suc-le-zero, zero-lt-suc, le-refl, add-zero}
 use native.Mathlib.Omega.{arith}
 use lib.ListN.{length, getD}
 use Rattle.refusal.specs.First.{SomeBelow}
 use Rattle.layout.specs.Push.{onward}
+use Rattle.refusal.proofs.Says.{Says, refuted, says-iff}
 use Rattle.lowering.specs.Slots.{Slot}
 use Rattle.lowering.specs.Rows.{idsWhere}
 use Rattle.lowering.specs.Demand.{noSlot}
@@ -20,36 +21,21 @@ by-test P true x y f g = f refl
 by-test P false x y f g = g refl
 
 module _ (p : Slot → Bool) where
-  -- ---- of lists put together
-
-  pub ids-append : (next : ℕ) (xs ys : List Slot) → idsWhere p next (xs ++ ys) ≡ idsWhere p next xs ++ idsWhere p (next + length xs) ys
-  ids-append next [] ys = ap (λ (n : ℕ). idsWhere p n ys) (sym (add-zero next))
-  ids-append next (s ∷ xs) ys =
-      go (p s) (ids-append (suc next) xs ys ∙ ap (λ (n : ℕ). idsWhere p (suc next) xs ++ idsWhere p n ys) (suc-add next (length xs) ∙ sym (add-suc next (length xs))))
-    where
-      go : (b : Bool) → idsWhere p (suc next) (xs ++ ys) ≡ idsWhere p (suc next) xs ++ idsWhere p (next + suc (length xs)) ys
-          → cond b (next ∷ idsWhere p (suc next) (xs ++ ys)) (idsWhere p (suc next) (xs ++ ys))
-          ≡ cond b (next ∷ idsWhere p (suc next) xs) (idsWhere p (suc next) xs) ++ idsWhere p (next + suc (length xs)) ys
-      go true e = ap (λ (l : List ℕ). next ∷ l) e
-      go false e = e
-
-  pub ids-none : (next : ℕ) (xs : List Slot) → Each (λ s. p s ≡ false) xs → idsWhere p next xs ≡ []
-  ids-none next [] a = refl
-  ids-none next (s ∷ xs) a = rw (a .0) (ids-none (suc next) xs (a .1))
-
-  pub ids-all : (next : ℕ) (xs : List Slot) → Each (λ s. p s ≡ true) xs → idsWhere p next xs ≡ onward next (length xs)
-  ids-all next [] a = refl
-  ids-all next (s ∷ xs) a = rw (a .0) (ap (λ (l : List ℕ). next ∷ l) (ids-all (suc next) xs (a .1)))
-
-  -- only the middle counts
-  pub ids-middle : (next : ℕ) (xs ys zs : List Slot) → Each (λ s. p s ≡ false) xs → Each (λ s. p s ≡ false) zs
-      → idsWhere p next (xs ++ (ys ++ zs)) ≡ idsWhere p (next + length xs) ys
-  ids-middle next xs ys zs a b =
-      ids-append next xs (ys ++ zs)
-      ∙ ap (λ (l : List ℕ). l ++ idsWhere p (next + length xs) (ys ++ zs)) (ids-none next xs a)
-      ∙ ids-append (next + length xs) ys zs
-      ∙ ap (λ (l : List ℕ). idsWhere p (next + length xs) ys ++ l) (ids-none (next + length xs + length ys) zs b)
-      ∙ append-nil (idsWhere p (next + length xs) ys)
+  -- those of n slots in a row, where these pass and no other
+  pub ids-in-row : (next a n : ℕ) (xs : List Slot) → a + n ≤ length xs → ((j : ℕ) → j < length xs → Says (p (getD xs j noSlot)) ((a ≤ j) × (j < a + n)))
+      → idsWhere p next xs ≡ onward (next + a) n
+  ids-in-row next a zero [] h f = refl
+  ids-in-row next a (suc n) [] h f = absurd (omega (arith, h))
+  ids-in-row next zero zero (s ∷ xs) h f =
+      rw (refuted (f 0 (zero-lt-suc (length xs))) (λ q. omega (arith, q .1)))
+      (ids-in-row (suc next) zero zero xs (omega arith) (λ j b. says-iff (λ q. absurd (omega (arith, q .1))) (λ q. absurd (omega (arith, q .1))) (f (suc j) (suc-le-suc b))))
+  ids-in-row next zero (suc n) (s ∷ xs) h f =
+      let rest = ids-in-row (suc next) zero n xs (omega (arith, h)) (λ j b. says-iff (λ q. (omega arith, omega (arith, q .1))) (λ q. (omega arith, omega (arith, q .1))) (f (suc j) (suc-le-suc b))) in
+      rw (f 0 (zero-lt-suc (length xs)) .back (omega arith, omega arith), add-zero) (ap (λ (l : List ℕ). next ∷ l) (rw add-zero at rest))
+  ids-in-row next (suc a) n (s ∷ xs) h f =
+      let same : next + suc a ≡ suc next + a = omega arith in
+      rw (refuted (f 0 (zero-lt-suc (length xs))) (λ q. omega (arith, q .0)), same)
+      (ids-in-row (suc next) a n xs (omega (arith, h)) (λ j b. says-iff (λ q. (omega (arith, q .0), omega (arith, q .1))) (λ q. (omega (arith, q .0), omega (arith, q .1))) (f (suc j) (suc-le-suc b))))
 
   -- ---- which ids they are
 
@@ -96,8 +82,3 @@ module _ (p : Slot → Bool) where
       cons ids r e zero (suc b) h g = each-at (Within (suc next) (length xs)) ids 0 e b (le-of-suc-le-suc g) .0
       cons ids r e (suc a) zero h g = absurd (not-suc-le-zero h)
       cons ids r e (suc a) (suc b) h g = r a b (le-of-suc-le-suc h) (le-of-suc-le-suc g)
-
--- tests that agree on each slot
-pub ids-same : (p q : Slot → Bool) (next : ℕ) (xs : List Slot) → Each (λ (s : Slot). p s ≡ q s) xs → idsWhere p next xs ≡ idsWhere q next xs
-ids-same p q next [] a = refl
-ids-same p q next (s ∷ xs) a = rw (a .0, ids-same p q (suc next) xs (a .1)) refl

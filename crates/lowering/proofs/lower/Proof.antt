@@ -19,19 +19,15 @@ fill-requires c κs =
     let l = c .before .before .before .before in
     passing-is _ _ (l .before .before .before .before .before .check .ensures) (l .before .before .before .checked2 .given .1) _ _ _ _ (l .before .slots-of .ensures) (l .lack .ensures) (c .before .before .before .if1 .left)
 
-cast-t28 : tie.Need-cast-t28
-cast-t28 c =
-    let l = c .before .before .before .before .before .before .before .before .before .before .before in
-    let a = l .before .before .before .before .before .before .before .before .before .before .before .args in
-    let e = enough _ _ (l .before .before .before .before .before .check .ensures) (l .before .before .before .checked2 .given .1) _ (a .ids .now) (a .values .now) (a .rows .now) (l .before .slots-of .ensures) (l .lack .ensures) (c .before .before .before .before .before .before .before .before .before .before .if1 .left) in
-    omega (arith, e .ids-left)
-
 add-t29 : tie.Need-add-t29
 add-t29 c =
     let l = c .before .before .before .before .before .before .before .before .before .before .before in
     let a = l .before .before .before .before .before .before .before .before .before .before .before .args in
     let e = enough _ _ (l .before .before .before .before .before .check .ensures) (l .before .before .before .checked2 .given .1) _ (a .ids .now) (a .values .now) (a .rows .now) (l .before .slots-of .ensures) (l .lack .ensures) (c .before .before .before .before .before .before .before .before .before .before .if1 .left) in
     omega (arith, e .ids-left)
+
+cast-t28 : tie.Need-cast-t28
+cast-t28 c = omega (arith, add-t29 c)
 
 returns-2 : tie.Need-returns-2
 returns-2 c = refused-ends _ _ _ _ _ _ (sym (c .before .before .before .check .ensures) ∙ c .before .checked .given .1)

@@ -21,7 +21,7 @@ use Rattle.record.specs.Sound.{Sound}
 use Rattle.index.specs.Labels.{kindNo, nameNo, same}
 use Rattle.index.proofs.Laws.{says-same}
 use Rattle.drawing.specs.Needs as needs
-use needs.{Shape, point, circle, arc, declaring, Need, needAt}
+use needs.{Shape, point, circle, arc, Need, needAt}
 use Rattle.drawing.specs.Faults.{Named, Meets}
 use Rattle.ground.specs.Lists.{flat}
 use Rattle.lowering.specs.Slots.{slots, size, firstSlot}
@@ -30,11 +30,11 @@ use Rattle.lowering.specs.Rows.{part, namingOf, names, idsWhere, namedId
 use Rattle.lowering.specs.Offsets.{componentAt, widthOf, widthAt, idsOfKind}
 use Rattle.lowering.specs.Demand.{slotAt, Declares, Carries}
 use Rattle.ground.proofs.Pieces.{sum-flat}
-use Rattle.lowering.specs.Steps.{sizeBy, endsIn, stemOf, centerSpan, spanOf}
+use Rattle.lowering.specs.Steps.{endsIn, stemOf, centerSpan, spanOf}
 use Rattle.lowering.proofs.drawing.Fine.{Fine, NoDot, plain-no-dot, plain-name}
 use Rattle.lowering.proofs.drawing.Found.{declared-found}
 use Rattle.lowering.proofs.ids.Tested.{by-test, ids-named, ids-has, ids-rise}
-use Rattle.lowering.proofs.ids.Named.{says-names, PairPart, the-point, circle-center, arc-center, XY, the-x, the-y, stands, ids-whole, ids-part}
+use Rattle.lowering.proofs.ids.Named.{sizes, says-names, PairPart, the-point, circle-center, arc-center, XY, the-x, the-y, stands, ids-whole, ids-part}
 
 -- ---- what the table needs
 
@@ -48,12 +48,9 @@ bare (c ∷ d ∷ cs) = false
 abbrev bareKind : ℕ → Bool
 bareKind k = ltb k 4 || ((eqb k fixComponent || eqb k fixCenter) || allBelow (kindAt k .labels) (λ q. bare (needAt k q)))
 
-bare-table : allBelow 24 bareKind ≡ true
-bare-table = refl
-
 bare-kind : (k : ℕ) → Rule k → (eqb k fixComponent || eqb k fixCenter) ≡ false → (q : ℕ) → q < kindAt k .labels → bare (needAt k q) ≡ true
 bare-kind k u a =
-    let t : bareKind k ≡ true = says-all bareKind (λ n. bareKind n ≡ true) (λ n. says-so) 24 .so bare-table k (omega (arith, u .1)) in
+    let t : bareKind k ≡ true = says-all bareKind (λ n. bareKind n ≡ true) (λ n. says-so) 24 .so refl k (omega (arith, u .1)) in
     says-all (λ q. bare (needAt k q)) (λ q. bare (needAt k q) ≡ true) (λ q. says-so) (kindAt k .labels) .so (rw (le-ltb k 4 (u .0), a) at t)
 
 -- no rule comes to more than eight ids: one computed test
@@ -116,11 +113,6 @@ xy zero h g = absurd (omega (arith, g))
 xy (suc zero) h g = the-x
 xy (suc (suc zero)) h g = the-y
 xy (suc (suc (suc a))) h g = absurd (omega (arith, h))
-
-pub sizes : (s : Shape) → (0 < size s) × (size s ≤ 6) × (sizeBy (declaring s) ≡ size s)
-sizes point = (omega arith, omega arith, refl)
-sizes circle = (omega arith, omega arith, refl)
-sizes arc = (omega arith, omega arith, refl)
 
 module _ (es : List Entry) (w : Fine es) (next : ℕ) (e : Entry) where
   -- the x or y of a point or a center

@@ -25,11 +25,13 @@ use Rattle.lowering.specs.Rows.{namedIds, rowFor, rulesOf, rowsOf}
 use Rattle.lowering.specs.Lower.{onto}
 use Rattle.lowering.specs.Demand.{Declares}
 use Rattle.lowering.specs.Steps.{sixOf, spanIds, labelIds, rowIds, rowAt, rowIf, rowsBy, Sayable, Writable, Passing}
+use Rattle.lowering.proofs.drawing.Counts.{at-first}
 use Rattle.lowering.proofs.drawing.Fine.{Fine, fine}
 use Rattle.lowering.proofs.slots.Components.{slot-of}
-use Rattle.lowering.proofs.slots.Looked.{given-id, given-long, first, handed-back}
+use Rattle.lowering.proofs.slots.Looked.{given-id, given-long, handed-back}
 use Rattle.lowering.proofs.ids.Six.{six-length}
-use Rattle.lowering.proofs.rows.Labels.{sizes, WorkedOut, worked-out, label-count, ids-few}
+use Rattle.lowering.proofs.ids.Named.{sizes}
+use Rattle.lowering.proofs.rows.Labels.{WorkedOut, worked-out, label-count, ids-few}
 use Rattle.lowering.proofs.rows.Bytes.{length-rows}
 
 -- two that agree on each element
@@ -46,9 +48,9 @@ module _ (es : List Entry) (w : Fine es) (few : length es ≤ mostRecords) (next
   six-is : (j : ℕ) (s : Shape) → Declares es j s
       → sixOf (layoutOf es) given (declaring s) (before s es j) ≡ upTo (size s) (λ k. getD given (firstSlot s es j + k) 0) ++ replicate (6 - size s) 0
   unfolding sixOf
-  six-is j point d = rw (handed-back es (omega (arith, few)) given (given-long es next ids) j point d, first given (firstSlot point es j)) refl
-  six-is j circle d = rw (handed-back es (omega (arith, few)) given (given-long es next ids) j circle d, first given (firstSlot circle es j)) refl
-  six-is j arc d = rw (handed-back es (omega (arith, few)) given (given-long es next ids) j arc d, first given (firstSlot arc es j)) refl
+  six-is j point d = rw (handed-back es (omega (arith, few)) given (given-long es next ids) j point d, at-first given (firstSlot point es j) 0) refl
+  six-is j circle d = rw (handed-back es (omega (arith, few)) given (given-long es next ids) j circle d, at-first given (firstSlot circle es j) 0) refl
+  six-is j arc d = rw (handed-back es (omega (arith, few)) given (given-long es next ids) j arc d, at-first given (firstSlot arc es j) 0) refl
 
   -- the id of component k
   six-at : (j : ℕ) (s : Shape) (k : ℕ) → Declares es j s → k < size s → getD (sixOf (layoutOf es) given (declaring s) (before s es j)) k 0 ≡ next + (firstSlot s es j + k)

@@ -31,16 +31,7 @@ module _ (es : List Entry) where
       each-of-all (Component es) es
       (λ s. each-slot (λ (l : Label). (i : ℕ) × Declares es i s × (nameNo es i ≡ l)) (Component es) s es
       (λ l d. each-of (Component es) (slotsOfShape s l) noSlot
-      (λ k h. (
-        d .0,
-        s,
-        k,
-        record {
-          declared = d .1;
-          one-of-it = subst (λ (n : ℕ). k < n) (length-shape s l) h;
-          is = ap (λ (z : Label). getD (slotsOfShape s z) k noSlot) (sym (d .2));
-        },
-      )))
+      (λ k h. (d .0, s, k, record { declared = d .1; one-of-it = rw (length-shape s l) at h; is = rw (d .2) refl })))
       (λ j d. (j, d, refl)))
 
   pub component-at : EachBelow (length (slots es)) (λ j. (i : ℕ) × (s : Shape) × (k : ℕ) × ComponentOf es i s k (slotAt es j))
@@ -53,11 +44,11 @@ places-told point l = refl
 places-told circle l = refl
 places-told arc l = refl
 
+pub place-told : (s : Shape) (l : Label) (k : ℕ) → k < size s → componentAt s (getD (slotsOfShape s l) k noSlot .suffix) (getD (slotsOfShape s l) k noSlot .axis) ≡ k
+place-told s l = slots-by (λ (t : Slot). componentAt s (t .suffix) (t .axis)) (λ k. k) 0 s l (places-told s l)
+
 one-place : (s : Shape) (l : Label) (a b : ℕ) → a < size s → b < size s → getD (slotsOfShape s l) a noSlot ≡ getD (slotsOfShape s l) b noSlot → a ≡ b
-one-place s l a b h g e =
-    let at : Slot → ℕ = λ t. componentAt s (t .suffix) (t .axis) in
-    let told = slots-by at (λ k. k) 0 s l (places-told s l) in
-    sym (told a h) ∙ ap at e ∙ told b g
+one-place s l a b h g e = sym (place-told s l a h) ∙ ap (λ (t : Slot). componentAt s (t .suffix) (t .axis)) e ∙ place-told s l b g
 
 -- a component has its shape's label
 pub label-of : (es : List Entry) (i : ℕ) (s : Shape) (k : ℕ) (t : Slot) → ComponentOf es i s k t → t .shape ≡ nameNo es i
@@ -85,8 +76,13 @@ module _ (es : List Entry) (w : Fine es) where
         },
       )
 
+  pub own-slot : (i : ℕ) (s : Shape) (j : ℕ) → Declares es i s → firstSlot s es i ≤ j → j < firstSlot s es i + size s → ComponentOf es i s (j - firstSlot s es i) (slotAt es j)
+  own-slot i s j d h g =
+      let e : firstSlot s es i + (j - firstSlot s es i) ≡ j = omega arith in
+      rw e at (slot-of i s (j - firstSlot s es i) d (omega arith) .1)
+
   -- and a slot with that shape's label is one of them
-  slot-is : (i : ℕ) (s : Shape) (j : ℕ) → Declares es i s → j < length (slots es) → slotAt es j .shape ≡ nameNo es i → (k : ℕ) × (k < size s) × (j ≡ firstSlot s es i + k)
+  pub slot-is : (i : ℕ) (s : Shape) (j : ℕ) → Declares es i s → j < length (slots es) → slotAt es j .shape ≡ nameNo es i → (k : ℕ) × (k < size s) × (j ≡ firstSlot s es i + k)
   slot-is i s j d h q =
       let a = around es w i s d in
       let l = nameNo es i in

@@ -18,7 +18,7 @@ use Rattle.drawing.specs.Needs.{Shape, point, circle, arc}
 use Rattle.lowering.specs.Slots.{Slot, slotsOfShape, slots, size, before, kindFor, layoutOf, firstSlot}
 use Rattle.lowering.specs.Fields.{fieldOf}
 use Rattle.lowering.specs.Demand.{slotAt, Declares, ComponentOf, HandsBack, ReadAs, ReadOut}
-use Rattle.lowering.proofs.drawing.Counts.{before-inside, length-slots, possible, slots-by}
+use Rattle.lowering.proofs.drawing.Counts.{before-inside, length-slots, possible, slots-by, at-first}
 use Rattle.lowering.proofs.drawing.Fine.{Fine}
 use Rattle.lowering.proofs.slots.Components.{slot-of, place-is}
 
@@ -28,13 +28,10 @@ module _ (vs : List Float) (at : ℕ) where
   abbrev shape : Shape → layout.Figure
   shape s = shapeAt (kindFor s) vs at
 
-  first : getD vs at nan ≡ getD vs (at + 0) nan
-  first = let e : at ≡ at + 0 = omega arith in ap (λ (z : ℕ). getD vs z nan) e
-
   fields : (s : Shape) (l : Label) → map (fieldOf (shape s)) (slotsOfShape s l) ≡ upTo (size s) (λ k. getD vs (at + k) nan)
-  fields point l = rw first refl
-  fields circle l = rw first refl
-  fields arc l = rw first refl
+  fields point l = rw (at-first vs at nan) refl
+  fields circle l = rw (at-first vs at nan) refl
+  fields arc l = rw (at-first vs at nan) refl
 
   of-kind : (s : Shape) → layout.kindOf (shape s) ≡ kindFor s
   of-kind point = refl

@@ -24,7 +24,7 @@ use Rattle.lowering.specs.Slots.{Slot, slotsOfShape, slots, size, before
 use Rattle.lowering.specs.Fields.{Ids, of-point, of-circle, of-arc, idsKind, idOf}
 use Rattle.lowering.specs.Lower.{onto}
 use Rattle.lowering.specs.Demand.{Declares, ComponentOf, HandsIds, LookedUp}
-use Rattle.lowering.proofs.drawing.Counts.{before-inside, slots-by, length-slots, possible}
+use Rattle.lowering.proofs.drawing.Counts.{before-inside, at-first, slots-by, length-slots, possible}
 
 -- ---- the ids that are given
 
@@ -50,13 +50,10 @@ module _ (ids : List ℕ) (at : ℕ) where
   of-kind circle = refl
   of-kind arc = refl
 
-  pub first : getD ids at 0 ≡ getD ids (at + 0) 0
-  first = let e : at ≡ at + 0 = omega arith in ap (λ (z : ℕ). getD ids z 0) e
-
   ids-by-name : (s : Shape) (l : Label) → map (idOf (taken s)) (slotsOfShape s l) ≡ upTo (size s) (λ k. getD ids (at + k) 0)
-  ids-by-name point l = rw first refl
-  ids-by-name circle l = rw first refl
-  ids-by-name arc l = rw first refl
+  ids-by-name point l = rw (at-first ids at 0) refl
+  ids-by-name circle l = rw (at-first ids at 0) refl
+  ids-by-name arc l = rw (at-first ids at 0) refl
 
 -- ---- what the lookups hand back
 

@@ -77,27 +77,18 @@ module _ (es : List Entry) where
   abbrev arcs : List Arc
   arcs = map (arcFor es) (labelsOf arc es)
 
-  points-are : map layout.point points ≡ shapes es point (labelsOf point es)
-  points-are = map-map layout.point (λ l. pairFor es l []) (labelsOf point es)
-
-  circles-are : map layout.circle circles ≡ shapes es circle (labelsOf circle es)
-  circles-are = map-map layout.circle (circleFor es) (labelsOf circle es)
-
-  arcs-are : map layout.arc arcs ≡ shapes es arc (labelsOf arc es)
-  arcs-are = map-map layout.arc (arcFor es) (labelsOf arc es)
-
   -- the pushes are a run of points, circles and arcs
   laid-run : (st : State) → laid es st ≡ run (runOf points circles arcs) st
   unfolding laid run
   laid-run st =
       sym
-      (rw (points-are, circles-are, arcs-are)
+      (rw (map-map layout.point, map-map layout.circle, map-map layout.arc)
       (stage-run es point st _ ∙ stage-run es circle (stage es 1 st) _ ∙ stage-run es arc (stage es 2 (stage es 1 st)) []))
 
   -- and their components the starting values
   values-are : allComponents (shapesOf points circles arcs) ≡ valuesOf es
   unfolding valuesOf slots
-  values-are = rw (points-are, circles-are, arcs-are) (simp (all-append, map-append, components-are es point, components-are es circle, components-are es arc))
+  values-are = rw (map-map layout.point, map-map layout.circle, map-map layout.arc) (simp (all-append, map-append, components-are es point, components-are es circle, components-are es arc))
 
 -- ---- a drawing that passes
 
