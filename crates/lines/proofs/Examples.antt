@@ -1,4 +1,4 @@
--- docs/FORMAT.md's example of a listing, line by line, a line of each other form, and lines of a check and a lowering, by computation. Assumes nothing.
+-- A line of each form that docs/FORMAT.md's page has not, and lines of a check and a lowering, by computation. Assumes nothing.
 use mathlib.Core.Path.{_≡_, refl}
 use mathlib.Core.List.{List, [], _∷_}
 use Prim.Native.Nat.{ℕ}
@@ -25,30 +25,6 @@ texts (w ∷ ws) = bytes w ∷ texts ws
 -- an entry by its kind, third byte, labels and numbers
 abbrev pub entry : ℕ → ℕ → List String → ℕ → ℕ → Entry
 entry kind third labels x y = record { kind = kind; third = third; labels = texts labels; x = x; y = y }
-
-pub listing :
-    joined (
-    firstLine (Good 4 3 125)
-    ∷ lineOf (entry 1 0 ("p" ∷ []) 0 0)
-    ∷ lineOf (entry 4 1 ("p" ∷ []) 0 0)
-    ∷ lineOf (entry 2 0 ("c" ∷ []) 0 0)
-    ∷ lineOf (entry 15 0 ("c" ∷ []) 0x4000000000000000 0)
-    ∷ lineOf (entry 24 0 ("p" ∷ []) 0x3ff0000000000000 0x4000000000000000)
-    ∷ lineOf (entry 24 0 ("c.center" ∷ []) 0 0x3fe0000000000000)
-    ∷ lineOf (entry 25 0 ("c.radius" ∷ []) 0x3ff0000000000000 0)
-    ∷ [])
-    ≡ quoted (
-    "instructions 4 guesses 3 end 125"
-    ∷ "1 p"
-    ∷ "4 p x 0000000000000000"
-    ∷ "2 c"
-    ∷ "15 c 4000000000000000"
-    ∷ "24 p 3ff0000000000000 4000000000000000"
-    ∷ "24 c.center 0000000000000000 3fe0000000000000"
-    ∷ "25 c.radius 3ff0000000000000"
-    ∷ [])
-unfolding firstLine lineOf spaced decimalOf hexOf lastDigits widthUpTo
-listing = refl
 
 pub others :
     joined (

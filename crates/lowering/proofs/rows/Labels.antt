@@ -15,7 +15,7 @@ use Rattle.refusal.specs.First.{allBelow}
 use Rattle.refusal.proofs.Says.{refuted, says-so, says-all}
 use Rattle.layout.specs.Push.{onward}
 use Rattle.layout.proofs.Onward.{length-onward}
-use Rattle.record.specs.Kinds.{kindAt, Rule, fixComponent, fixCenter}
+use Rattle.record.specs.Kinds.{kindAt, Rule, firstRule, fixComponent, fixCenter}
 use Rattle.record.specs.Entry.{Label, Entry, entryAt, labelNo}
 use Rattle.record.specs.Sound.{Sound}
 use Rattle.index.specs.Labels.{kindNo, nameNo, same}
@@ -46,12 +46,12 @@ bare (c ∷ d ∷ cs) = false
 
 -- but for kinds 4 and 18, a rule's labels are so: one computed test of the table
 abbrev bareKind : ℕ → Bool
-bareKind k = ltb k 4 || ((eqb k fixComponent || eqb k fixCenter) || allBelow (kindAt k .labels) (λ q. bare (needAt k q)))
+bareKind k = ltb k firstRule || ((eqb k fixComponent || eqb k fixCenter) || allBelow (kindAt k .labels) (λ q. bare (needAt k q)))
 
 bare-kind : (k : ℕ) → Rule k → (eqb k fixComponent || eqb k fixCenter) ≡ false → (q : ℕ) → q < kindAt k .labels → bare (needAt k q) ≡ true
 bare-kind k u a =
     let t : bareKind k ≡ true = says-all bareKind (λ n. bareKind n ≡ true) (λ n. says-so) 24 .so refl k (omega (arith, u .1)) in
-    says-all (λ q. bare (needAt k q)) (λ q. bare (needAt k q) ≡ true) (λ q. says-so) (kindAt k .labels) .so (rw (le-ltb k 4 (u .0), a) at t)
+    says-all (λ q. bare (needAt k q)) (λ q. bare (needAt k q) ≡ true) (λ q. says-so) (kindAt k .labels) .so (rw (le-ltb k firstRule (u .0), a) at t)
 
 -- no rule comes to more than eight ids: one computed test
 abbrev fewIds : ℕ → Bool
@@ -132,25 +132,25 @@ module _ (es : List Entry) (w : Fine es) (next : ℕ) (e : Entry) where
       ids-are = ids ∙ ids-part es w j s d next (e .third) p o;
     }
 
-    at-part : e .kind ≡ 4 → Named es s u (labelNo e 0) → WorkedOut es next e 0
+    at-part : e .kind ≡ fixComponent → Named es s u (labelNo e 0) → WorkedOut es next e 0
     unfolding spanOf namedIds
     at-part k (j, h, (d, name)) =
         let own : Declares es j s = record { inside = h; kind-is = d } in
         parted j 0 own (rw k refl) (rw (k, ← name, stem-is (nameNo es j) (plain-no-dot (plain-name es w j s own)) p) refl) (rw (k, ← name) refl)
 
-    at-center : u ≡ bytes ".center" → e .kind ≡ 18 → Named es s [] (labelNo e 0) → WorkedOut es next e 0
+    at-center : u ≡ bytes ".center" → e .kind ≡ fixCenter → Named es s [] (labelNo e 0) → WorkedOut es next e 0
     unfolding spanOf namedIds
     at-center c k (j, h, (d, q)) =
         let name : labelNo e 0 ≡ nameNo es j = sym q ∙ append-nil (nameNo es j) in
         parted j 0 (record { inside = h; kind-is = d }) (rw k refl) (rw (k, name) refl) (rw (k, name, c) refl)
 
-  fixed-part : e .kind ≡ 4 → XY (e .third) → Meets es (needAt 4 0) (labelNo e 0) → WorkedOut es next e 0
+  fixed-part : e .kind ≡ fixComponent → XY (e .third) → Meets es (needAt fixComponent 0) (labelNo e 0) → WorkedOut es next e 0
   fixed-part k o (inl m) = at-part point [] the-point o k m
   fixed-part k o (inr (inl m)) = at-part circle (bytes ".center") circle-center o k m
   fixed-part k o (inr (inr (inl m))) = at-part arc (bytes ".center") arc-center o k m
   fixed-part k o (inr (inr (inr m))) = absurd m
 
-  fixed-center : e .kind ≡ 18 → XY (e .third) → Meets es (needAt 18 0) (labelNo e 0) → WorkedOut es next e 0
+  fixed-center : e .kind ≡ fixCenter → XY (e .third) → Meets es (needAt fixCenter 0) (labelNo e 0) → WorkedOut es next e 0
   fixed-center k o (inl m) = at-center circle (bytes ".center") circle-center o refl k m
   fixed-center k o (inr (inl m)) = at-center arc (bytes ".center") arc-center o refl k m
   fixed-center k o (inr (inr m)) = absurd m
