@@ -29,7 +29,7 @@ use Rattle.layout.specs.Push.{State, over, onward, after}
 use Rattle.layout.specs.Run.{act, done}
 use Rattle.layout.specs.Look.{pointIds, circleIds, arcSlotIds}
 use Rattle.record.specs.Record.{mostRecords}
-use Rattle.record.specs.Kinds.{kindAt, Rule, newPoint, newCircle, newArc, firstRule, lastRule}
+use Rattle.record.specs.Kinds.{kindAt, Rule, newPoint, newCircle, newArc, firstRule, lastRule, assigned, a-round}
 use Rattle.record.specs.Entry.{Label, Entry, entryAt, labelNo}
 use Rattle.index.specs.Labels.{kindNo, same, within, labelled, lowestOr}
 use Rattle.index.specs.Chains.{Chained}
@@ -133,6 +133,11 @@ centerSpan es third l = record { shape = shapeNo es l; first = centerBy (kindNo 
 -- a label without a center's suffix
 abbrev pub stemOf : Label → Label
 stemOf l = take (length l - cond (endsIn l (bytes ".center")) 7 0) l
+
+-- what a label names, by the code of its place in the table of kinds: where a label may be assigned, a part; where a circle or an arc
+-- is due, its center; else the whole shape
+abbrev pub namingBy : ℕ → Naming
+namingBy code = cond (eqb code assigned) part (cond (eqb code a-round) center whole)
 
 -- by what the label names, and the third byte of its rule
 unfoldable pub spanOf : List Entry → Naming → ℕ → Label → Span

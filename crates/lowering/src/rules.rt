@@ -9,8 +9,7 @@ ghost use Rattle.index.specs.Labels.{drawn};
 ghost use Rattle.layout.specs.Push.{over};
 ghost use Rattle.row.specs.Row.{mostIds};
 ghost use Rattle.lowering.specs.Lower.{onto};
-ghost use Rattle.lowering.specs.Rows.{namingOf};
-ghost use Rattle.lowering.specs.Steps.{pointSix, circleSix, arcSix, sixOf, RowTables, spanOf, spanIds, Addable, Added, Sayable, Begins, rowIds, rowAt, rowIf, Writing, Writable, rowsBy};
+ghost use Rattle.lowering.specs.Steps.{pointSix, circleSix, arcSix, sixOf, RowTables, namingBy, spanOf, spanIds, Addable, Added, Sayable, Begins, rowIds, rowAt, rowIf, Writing, Writable, rowsBy};
 use crate::spans::number;
 use crate::spans::span_of;
 use index::CHAINS;
@@ -28,6 +27,7 @@ use record::kinds::FIRST_RULE;
 use record::kinds::KINDS;
 use record::kinds::LABELS;
 use record::kinds::LAST_RULE;
+use record::kinds::NEEDS;
 use record::kinds::NEW_ARC;
 use record::kinds::NEW_CIRCLE;
 use record::kinds::NEW_POINT;
@@ -105,7 +105,7 @@ fn wide(x: u16) -> usize
     x as usize
 }
 
-// Puts the ids of what a label names, by its rule's kind and third byte, behind the first m, and tells how many they are then.
+// Puts the ids of what a label names, by the code of its place and its rule's third byte, behind the first m, and tells how many they are then.
 fn add_label(
     text: &[u8],
     records: &[u8],
@@ -113,16 +113,16 @@ fn add_label(
     numbers: &[u16],
     l: Layout,
     ids: &[u32],
-    kind: u8,
+    code: u8,
     third: u8,
     label: &[u8],
     out: &mut [u32],
     m: usize,
 ) -> usize
-    requires { ⌜ RowTables (drawn (now text) (now records)) (now chains) (now numbers) × Addable (drawn (now text) (now records)) (spanOf (drawn (now text) (now records)) (namingOf kind) third (now label)) (now out) m ⌝ }
-    ensures { λ r. ⌜ Added (spanIds (drawn (now (text .entry)) (now (records .entry))) l (now (ids .entry)) (spanOf (drawn (now (text .entry)) (now (records .entry))) (namingOf kind) third (now (label .entry)))) (now (out .entry)) m r (now (out .exit)) ⌝ }
+    requires { ⌜ RowTables (drawn (now text) (now records)) (now chains) (now numbers) × Addable (drawn (now text) (now records)) (spanOf (drawn (now text) (now records)) (namingBy code) third (now label)) (now out) m ⌝ }
+    ensures { λ r. ⌜ Added (spanIds (drawn (now (text .entry)) (now (records .entry))) l (now (ids .entry)) (spanOf (drawn (now (text .entry)) (now (records .entry))) (namingBy code) third (now (label .entry)))) (now (out .entry)) m r (now (out .exit)) ⌝ }
 {
-    let span = span_of(text, records, chains, kind, third, label);
+    let span = span_of(text, records, chains, code, third, label);
     let shape = span.shape;
     let number = wide(numbers[shape]);
     let six = six_of(l, ids, kind_at(records, shape), number);
@@ -152,6 +152,7 @@ fn row_ids(
     let mut m = 0;
     let mut q = 0;
     while q < n {
+        let code = look(kinds, kind, NEEDS + q);
         let label = label_at(text, records, i, q);
         m = add_label(
             text,
@@ -160,7 +161,7 @@ fn row_ids(
             numbers,
             l,
             ids,
-            kind,
+            code,
             third,
             label,
             out,

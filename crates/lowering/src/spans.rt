@@ -9,17 +9,16 @@ ghost use Rattle.record.specs.Decode.{countOf as records-in, decodeAt};
 ghost use Rattle.index.specs.Labels.{drawn};
 ghost use Rattle.index.specs.Chains.{Chained};
 ghost use Rattle.drawing.specs.Check.{countBelow};
-ghost use Rattle.lowering.specs.Steps.{sizeBy, centerBy, axisAt, endsIn, wholeSpan, centerSpan, stemOf, spanOf};
-ghost use Rattle.lowering.specs.Rows.{namingOf};
+ghost use Rattle.lowering.specs.Steps.{sizeBy, centerBy, axisAt, endsIn, wholeSpan, centerSpan, stemOf, namingBy, spanOf};
 use index::find;
 use index::labels::kind_at;
 use index::labels::same;
 use record::SIZE;
-use record::kinds::FIX_CENTER;
-use record::kinds::FIX_COMPONENT;
+use record::kinds::ASSIGNED;
 use record::kinds::NEW_ARC;
 use record::kinds::NEW_CIRCLE;
 use record::kinds::NEW_POINT;
+use record::kinds::ROUND;
 
 // The third byte for y.
 const Y: u8 = 2;
@@ -106,21 +105,21 @@ fn part_span(text: &[u8], records: &[u8], chains: &[u16], third: u8, label: &[u8
     center_span(text, records, chains, third, &label[..n])
 }
 
-// What a label names, by the kind and the third byte of its rule.
+// What a label names, by the code of its place in the table of kinds and the third byte of its rule.
 pub(crate) fn span_of(
     text: &[u8],
     records: &[u8],
     chains: &[u16],
-    kind: u8,
+    code: u8,
     third: u8,
     label: &[u8],
 ) -> Span
     requires { ⌜ Chained (drawn (now text) (now records)) newPoint newArc (now chains) ⌝ }
-    ensures { λ r. ⌜ r ≡ spanOf (drawn (now (text .entry)) (now (records .entry))) (namingOf kind) third (now (label .entry)) ⌝ }
+    ensures { λ r. ⌜ r ≡ spanOf (drawn (now (text .entry)) (now (records .entry))) (namingBy code) third (now (label .entry)) ⌝ }
 {
-    match kind {
-        FIX_COMPONENT => part_span(text, records, chains, third, label),
-        FIX_CENTER => center_span(text, records, chains, third, label),
+    match code {
+        ASSIGNED => part_span(text, records, chains, third, label),
+        ROUND => center_span(text, records, chains, third, label),
         _ => whole_span(text, records, chains, label),
     }
 }

@@ -68,10 +68,10 @@ unfolding cell
 number-is k = eqb-true _ _ (every sortColumn (λ c kind. eqb c (kind .number)) refl k)
 
 -- two tests that come out alike
-abbrev alike : Bool → Bool → Bool
+abbrev pub alike : Bool → Bool → Bool
 alike a b = cond a b (not b)
 
-alike-same : (a b : Bool) → alike a b ≡ true → a ≡ b
+pub alike-same : (a b : Bool) → alike a b ≡ true → a ≡ b
 alike-same true b e = sym e
 alike-same false true e = e
 alike-same false false e = refl

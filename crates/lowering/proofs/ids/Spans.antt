@@ -1,27 +1,51 @@
--- What a rule's label names, step by step as the code finds it: by its rule's kind, the whole shape, a part or the center; by the chains of the
+-- What a rule's label names, step by step as the code finds it: by the table of kinds, the whole shape, a part or the center; by the chains of the
 -- declarations, the shape's record; by its kind, the slots. Assumes nothing.
-use mathlib.Core.Path.{_≡_, refl, sym, _∙_}
-use mathlib.Core.Bool.{Bool, false, cond}
+use mathlib.Core.Path.{_≡_, refl, sym, ap, _∙_}
+use mathlib.Core.Bool.{Bool, true, false, _&&_, cond}
 use mathlib.Core.List.{List}
 use Prim.Native.Nat.{ℕ, _+_, _-_, _≤_, _<_}
+use native.Mathlib.Decide.{decLt}
 use native.Mathlib.Omega.{arith}
 use native.Mathlib.Numerals.{add-one}
-use lib.ListN.{length, getD, set, take, drop, length-set, length-drop}
+use lib.ListN.{length, getD, set, take, drop, length-set, length-drop, List·getD-eq-default}
 use lib.Seq.{paste, paste-zero, paste-suc, getD-take, getD-drop, length-take-le, take-length}
 use lib.Dec.{ltb, eqb}
 use borrow.Author.Tests.{ltb-false}
 use Rattle.ground.proofs.Lists.{either-le}
 use Rattle.layout.specs.Push.{over}
-use Rattle.record.specs.Kinds.{newPoint, newArc}
+use Rattle.refusal.specs.First.{EachBelow, allBelow}
+use Rattle.refusal.proofs.Says.{says-so, says-and, says-all}
+use Rattle.record.specs.Kinds.{Kind, kinds, noKind, kindAt, rows, newPoint, newArc, fixComponent, fixCenter, assigned, a-round}
+use Rattle.record.proofs.Cells.{alike, alike-same}
 use Rattle.record.specs.Decode.{decodeAt}
 use Rattle.record.specs.Entry.{Label}
 use Rattle.index.specs.Labels.{drawn, same, kindNo}
 use Rattle.index.specs.Chains.{Chained, walkOf}
 use Rattle.index.proofs.Drawn.{drawn-kind}
 use Rattle.index.proofs.Found.{found}
+use Rattle.drawing.specs.Needs.{codeAt}
 use Rattle.lowering.specs.Slots.{y-axis}
-use Rattle.lowering.specs.Steps.{shapeNo, sizeBy, centerBy, axisAt, endsIn, wholeSpan, centerSpan}
+use Rattle.lowering.specs.Rows.{namingOf}
+use Rattle.lowering.specs.Steps.{namingBy, shapeNo, sizeBy, centerBy, axisAt, endsIn, wholeSpan, centerSpan}
 use Rattle.lowering.proofs.ids.Tested.{by-test}
+
+-- ---- what a label's place names
+
+-- the code of a kind's label place tells a part and a center as the kind does
+abbrev agrees : ℕ → ℕ → Bool
+agrees k q = alike (eqb (codeAt k q) assigned) (eqb k fixComponent) && alike (eqb (codeAt k q) a-round) (eqb k fixCenter)
+
+-- so do all codes of the table: one computed test
+pub naming-is : (k q : ℕ) → q < kindAt k .labels → namingBy (codeAt k q) ≡ namingOf k
+naming-is k q h =
+    let a = says-and says-so says-so .so (all q h) in
+    rw (alike-same (eqb (codeAt k q) assigned) (eqb k fixComponent) (a .0), alike-same (eqb (codeAt k q) a-round) (eqb k fixCenter) (a .1)) refl
+  where
+    all : EachBelow (kindAt k .labels) (λ q. agrees k q ≡ true)
+    all = elim (decLt k rows) [
+      | yes b ↦ says-all (agrees k) _ (λ q. says-so) (kindAt k .labels) .so (says-all (λ n. allBelow (kindAt n .labels) (agrees n)) (λ n. allBelow (kindAt n .labels) (agrees n) ≡ true) (λ n. says-so) rows .so refl k b)
+      | no f ↦ λ q h. absurd (omega (arith, h, ap (λ (r : Kind). r .labels) (List·getD-eq-default kinds noKind {n = k} (omega (arith, f)))))
+    ]
 
 -- ---- the end of a label
 

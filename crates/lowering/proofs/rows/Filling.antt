@@ -13,20 +13,22 @@ use Rattle.store.proofs.Laws.{written-none}
 use Rattle.layout.specs.declared.Layout.{Layout}
 use Rattle.layout.proofs.Onward.{over-front}
 use Rattle.record.specs.declared.Record.{Record}
-use Rattle.record.specs.Kinds.{labelsColumn, table, cell, firstRule, lastRule}
+use Rattle.record.specs.Kinds.{kindAt, labelsColumn, needsColumn, table, cell, firstRule, lastRule}
 use Rattle.record.specs.Decode.{decodeAt}
 use Rattle.record.specs.Entry.{Entry, entryAt, labelNo, entryOf}
 use Rattle.index.specs.Labels.{drawn, within}
 use Rattle.index.proofs.Drawn.{drawn-at}
-use Rattle.drawing.proofs.Laws.{labels-read}
+use Rattle.record.proofs.Cells.{looked, needs-is}
+use Rattle.drawing.proofs.Laws.{labels-read, four-labels}
 use Rattle.ground.specs.Lists.{flat, upTo}
 use Rattle.row.specs.Row.{mostIds, rowBytes, eight, bytesOf, encodeRow}
 use Rattle.lowering.specs.Rows.{namingOf}
 use Rattle.lowering.specs.Lower.{onto}
-use Rattle.lowering.specs.Steps.{spanOf, labelIds, rowIds, rowAt, rowIf, Addable, Added, Sayable, Begins, Writing}
+use Rattle.lowering.specs.Steps.{namingBy, spanOf, labelIds, rowIds, rowAt, rowIf, Addable, Added, Sayable, Begins, Writing}
 use Rattle.ground.proofs.Pieces.{flat-suc, flat-append}
 use Rattle.row.proofs.Back.{length-row}
 use Rattle.lowering.proofs.ids.Six.{label-length}
+use Rattle.lowering.proofs.ids.Spans.{naming-is}
 
 -- ---- pieces put behind one another
 
@@ -97,6 +99,13 @@ module _ (text records : List ℕ) (i : ℕ) (r : Record) (er : r ≡ decodeAt r
       zeros-behind [] k n q = getD-drop k (replicate n 0) q 0 ∙ zeros-at n (k + q)
       zeros-behind (id ∷ ids) k n zero = refl
       zeros-behind (id ∷ ids) k n (suc q) = zeros-behind ids k n q
+
+-- what label q of a rule that can be said names, by the code of its place in the table as it is lent
+pub naming-read : {lent : List (List ℕ)} {es : List Entry} {l : Layout} {ids : List ℕ} {e : Entry} {kind third n q code : ℕ} → lent ≡ table → Sayable es l ids e
+    → Told e kind third n → q < length (e .labels) → code ≡ cell lent kind (needsColumn + q) → namingBy code ≡ namingOf (e .kind)
+naming-read {lent} {e = e} {kind} {q = q} {code} is s t h found =
+    let inside : q < kindAt kind .labels = rw (t .kind-is) (omega (arith, h, s .count)) in
+    ap namingBy (looked lent kind (needsColumn + q) code is found (needs-is kind q (omega (arith, inside, four-labels kind)))) ∙ naming-is kind q inside ∙ ap namingOf (t .kind-is)
 
 -- a label of a rule that can be said is added behind those before it
 pub addable : {es : List Entry} {l : Layout} {ids : List ℕ} {e : Entry} {was : List ℕ} {m : ℕ} {out : List ℕ} {q : ℕ} → Sayable es l ids e → length was ≡ mostIds → q < length (e .labels)

@@ -5,7 +5,7 @@ use Prim.Native.Nat.{_<_}
 use lib.ListN.{length}
 use Rattle.index.specs.Labels.{drawn}
 use Rattle.index.proofs.Drawn.{drawn-kind}
-use Rattle.lowering.specs.Rows.{namingOf}
+use Rattle.lowering.specs.Steps.{namingBy}
 use Rattle.lowering.proofs.ids.Six.{span-inside, six-length, added}
 use borrow.Author.Needs.{needs}
 use Rattle.lowering.proofs.rules.add_label.Statement.{statement}
@@ -27,7 +27,7 @@ append-requires : tie.Need-append-requires
 append-requires c κs =
     let s = c .before .before .before .before .before .before .before .before .before .before .before .before .before in
     let e = c .before .before .before .before .before .span-of .ensures in
-    ((rw (← e) at (s .pre .1)) .room, rw e (span-inside _ (s .args .third) _ (namingOf (s .args .kind))), ap length (c .before .six-of .ensures) ∙ six-length _ _ _ _)
+    ((rw (← e) at (s .pre .1)) .room, rw e (span-inside _ (s .args .third) _ (namingBy (s .args .code))), ap length (c .before .six-of .ensures) ∙ six-length _ _ _ _)
 
 add-result : tie.Need-add-result
 add-result c =
@@ -40,7 +40,7 @@ returns c =
     let s = c .before .before .before .before .before .before .before .before .before .before .before .before .before .before .before .before .before in
     let a = s .args in
     let e = c .before .before .before .before .before .before .before .before .before .span-of .ensures in
-    added (drawn (a .text .now) (a .records .now)) (a .l) (a .ids .now) (namingOf (a .kind)) (a .third) (a .label .now) _ e _ _ _
+    added (drawn (a .text .now) (a .records .now)) (a .l) (a .ids .now) (namingBy (a .code)) (a .third) (a .label .now) _ e _ _ _
     (c .before .before .before .before .before .six-of .ensures)
     (c .before .before .before .before .before .before .kind-at .ensures ∙ sym (drawn-kind (a .text .now) (a .records .now) _))
     (c .before .before .before .before .before .before .before .wide .ensures ∙ s .pre .0 .numbered _ ((rw (← e) at (s .pre .1)) .found))
