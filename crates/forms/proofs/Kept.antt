@@ -34,13 +34,13 @@ abbrev pub Declares : ℕ → Type 0
 Declares k = (isGuess k ≡ false) × (fieldsTest (kindAt k) 0 1 0 0 ≡ true) × (kindAt k .dotted ≡ false)
 
 -- what holds of each form, and of no line, holds of an instruction; of the keyword forms it may hold by a test of their kinds
-module _ (s : List ℕ) (Q : Lines → Type 0) (numberless : Q (noLine Nothing)) where
+module _ (s : List ℕ) (Q : Lines → Type 0) (no-line : Q (noLine Nothing)) where
   or-of : {x y : Lines} → Q x → Q y → Q (orLine x y)
   or-of {x} {y} f g = either-of Q (x .then) x y f g
 
   first-of : (t : Stand) (test : ℕ → Bool) → ((k : ℕ) → test k ≡ true → Q (keywordOn s t k)) → (ks : List ℕ) → all test ks ≡ true → Q (firstOf s t ks)
   unfolding firstOf
-  first-of t test f [] e = numberless
+  first-of t test f [] e = no-line
   first-of t test f (k ∷ ks) e = or-of (f k (and-first (test k) (all test ks) e)) (first-of t test f ks (and-second (test k) (all test ks) e))
 
   pub instruction-of : (t : Stand) → let at = wsOn s t in let l = labelOn s at in

@@ -85,8 +85,8 @@ module _ (s : List ℕ) where
   one-proper : (guess : Bool) (kind third x y : ℕ) (l : ReadLabel) → isGuess kind ≡ guess → fieldsTest (kindAt kind) third 1 x y ≡ true
       → x < 2 ^ 64 → y < 2 ^ 64 → Found s (kindAt kind .dotted) l → Proper s guess (oneLabelled kind third l x y)
   one-proper guess kind third x y l sort fields x-fits y-fits f =
-      let numberless = none-held (kindAt kind .dotted) in
-      proper-of (oneLabelled kind third l x y) guess sort fields (omega arith) refl (each-place _ (found-held (kindAt kind .dotted) l f) numberless numberless numberless) x-fits y-fits
+      let empty = none-held (kindAt kind .dotted) in
+      proper-of (oneLabelled kind third l x y) guess sort fields (omega arith) refl (each-place _ (found-held (kindAt kind .dotted) l f) empty empty empty) x-fits y-fits
 
 -- ---- third bytes
 
