@@ -40,7 +40,7 @@ use Rattle.lines.specs.Drawn.{loweredLine, slotLine, rowLine}
 use Rattle.lines.proofs.RowBack.{row-printed}
 use Rattle.answers.specs.Answers.{slotLines, drawingLines}
 use Rattle.answers.specs.Steps.{Read, slotsBy, loweredBy}
-use Rattle.answers.proofs.Room.{slots-most, rules-most, enough}
+use Rattle.answers.proofs.Room.{slotRoom, rowRoom, slots-most, rules-most, enough}
 
 -- ---- rows
 
@@ -73,13 +73,13 @@ slots-shown es =
 
 -- the slices and the buffer as they are lent, and the room that they have
 abbrev ids₀ : List ℕ
-ids₀ = replicate 10800 0
+ids₀ = replicate slotRoom 0
 
 abbrev values₀ : List Float
-values₀ = replicate 10800 (ofBits binary64 0)
+values₀ = replicate slotRoom (ofBits binary64 0)
 
 abbrev rows₀ : List ℕ
-rows₀ = replicate 79200 0
+rows₀ = replicate rowRoom 0
 
 abbrev lent : Room
 lent = roomIn 0 ids₀ values₀ rows₀
@@ -94,8 +94,8 @@ module _ {s bs : List ℕ} (read : Read s bs) {told : Lowered} {ids : List ℕ} 
 
   suffices : Enough (linesOf s) lent
   suffices =
-      enough (linesOf s) few lent refl (omega (arith, length-replicate {0} {A = ℕ} 10800 0)) (omega (arith, length-replicate {0} {A = Float} 10800 (ofBits binary64 0)))
-      (omega (arith, length-replicate {0} {A = ℕ} 79200 0))
+      enough (linesOf s) few lent refl (omega (arith, length-replicate {0} {A = ℕ} slotRoom 0)) (omega (arith, length-replicate {0} {A = Float} slotRoom (ofBits binary64 0)))
+      (omega (arith, length-replicate {0} {A = ℕ} rowRoom 0))
 
   on-lines : Lowers (linesOf s) 0 ids₀ values₀ rows₀ told ids values rows
   on-lines = rw (read .entries-are) at call

@@ -3,11 +3,14 @@
 use mathlib.Core.Path.{_≡_, refl}
 use mathlib.Core.Bool.{Bool, true, false, cond}
 use mathlib.Core.List.{List}
-use Prim.Native.Nat.{ℕ, zero, suc, _+_, _≤_}
+use Prim.Native.Nat.{ℕ, zero, suc, _+_, _*_, _≤_}
 use native.Mathlib.Omega.{arith}
 use lib.Dec.{eqb}
 use lib.ListN.{length}
 use borrow.Author.Tests.{eqb-true}
+use Rattle.layout.specs.Slots.{sizeOf}
+use Rattle.layout.specs.declared.ShapeKind.the-variants.{Arc}
+use Rattle.row.specs.Row.{rowBytes}
 use Rattle.record.specs.Kinds.{firstRule, lastRule}
 use Rattle.record.specs.Record.{mostRecords}
 use Rattle.record.specs.Entry.{Entry}
@@ -19,6 +22,13 @@ use Rattle.lowering.specs.Lower.{Room}
 use Rattle.lowering.specs.Demand.{Enough}
 use Rattle.index.proofs.Laws.{within-one}
 use Rattle.lowering.proofs.drawing.Counts.{count-le, rules-all, slot-count}
+
+-- room for the slots and for the rows of any drawing that a page holds
+abbrev pub slotRoom : ℕ
+slotRoom = mostRecords * sizeOf Arc
+
+abbrev pub rowRoom : ℕ
+rowRoom = mostRecords * rowBytes
 
 -- a number is one of 1, 2 and 3 at most once
 once : (k : ℕ) → cond (within 1 1 k) 1 0 + cond (within 2 2 k) 1 0 + cond (within 3 3 k) 1 0 ≤ 1
@@ -39,13 +49,13 @@ shapes-le kinds zero = omega arith
 shapes-le kinds (suc n) = omega (arith, shapes-le kinds n, once (kinds n))
 
 module _ (es : List Entry) (few : length es ≤ mostRecords) where
-  pub slots-most : length (slots es) ≤ 10800
+  pub slots-most : length (slots es) ≤ slotRoom
   slots-most = omega (arith, few, slot-count es, shapes-le (kindNo es) (length es))
 
   pub rules-most : length (rulesOf es) ≤ mostRecords
   rules-most = omega (arith, few, rules-all es, count-le (kindNo es) firstRule lastRule (length es))
 
-  pub enough : (room : Room) → room .next ≡ 0 → 10800 ≤ room .ids → 10800 ≤ room .values → 79200 ≤ room .row-bytes → Enough es room
+  pub enough : (room : Room) → room .next ≡ 0 → slotRoom ≤ room .ids → slotRoom ≤ room .values → rowRoom ≤ room .row-bytes → Enough es room
   enough room n i v r =
       record {
         ids-left = omega (arith, n, slots-most);

@@ -182,7 +182,7 @@ fn row_at(
     l: Layout,
     ids: &[u32],
     i: usize,
-) -> [u8; 44]
+) -> [u8; ROW]
     requires { ⌜ (now kinds ≡ table) × RowTables (drawn (now text) (now records)) (now chains) (now numbers) × Sayable (drawn (now text) (now records)) l (now ids) (entryAt (drawn (now text) (now records)) i) ⌝ }
     ensures { λ r. ⌜ r ≡ rowAt (drawn (now (text .entry)) (now (records .entry))) l (now (ids .entry)) (entryAt (drawn (now (text .entry)) (now (records .entry))) i) ⌝ }
 {

@@ -37,7 +37,7 @@ pub struct Record {
     pub kind: u8,
     pub third: u8,
     pub count: u8,
-    pub labels: [View; 4],
+    pub labels: [View; PLACES],
     pub x: u64,
     pub y: u64,
 }
@@ -82,7 +82,7 @@ fn view_bytes(v: View) -> [u8; 4]
 }
 
 // The bytes of an instruction: four labels, then the number.
-fn instruction_bytes(r: Record) -> [u8; 28]
+fn instruction_bytes(r: Record) -> [u8; SIZE]
     ensures { λ b. ⌜ b ≡ instruction r ⌝ }
 {
     let a = view_bytes(r.labels[0]);
@@ -123,7 +123,7 @@ fn instruction_bytes(r: Record) -> [u8; 28]
 }
 
 // The bytes of a guess: one label, then the two numbers, then four zeros.
-fn guess_bytes(r: Record) -> [u8; 28]
+fn guess_bytes(r: Record) -> [u8; SIZE]
     ensures { λ b. ⌜ b ≡ guess r ⌝ }
 {
     let a = view_bytes(r.labels[0]);
@@ -162,7 +162,7 @@ fn guess_bytes(r: Record) -> [u8; 28]
 }
 
 // The bytes of a record.
-pub fn encode_record(r: Record) -> [u8; 28]
+pub fn encode_record(r: Record) -> [u8; SIZE]
     ensures { λ b. ⌜ b ≡ encode r ⌝ }
 {
     if PAIR_GUESS <= r.kind {

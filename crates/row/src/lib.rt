@@ -23,12 +23,12 @@ pub struct Row {
     pub kind: u8,
     pub third: u8,
     pub count: u8,
-    pub ids: [u32; 8],
+    pub ids: [u32; MOST_IDS],
     pub bits: u64,
 }
 
 // The bytes of a row.
-pub fn encode_row(r: Row) -> [u8; 44]
+pub fn encode_row(r: Row) -> [u8; ROW]
     ensures { λ b. ⌜ b ≡ bytesOf r ⌝ }
 {
     let ids = r.ids;
@@ -137,7 +137,7 @@ pub fn decode_row(rows: &[u8], k: usize) -> Row
             kind: 0,
             third: 0,
             count: 0,
-            ids: [0; 8],
+            ids: [0; MOST_IDS],
             bits: 0,
         };
     }
