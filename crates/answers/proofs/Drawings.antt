@@ -29,9 +29,10 @@ use Rattle.row.specs.Row.{Row, rowBytes, encodeRows, decodeRow, rowOf, RowFits}
 use Rattle.lowering.specs.Rows.{rulesOf, rowsOf}
 use Rattle.lowering.specs.Lower.{Room, roomIn, lowerOf, Lowers}
 use Rattle.lowering.specs.Demand.{Enough}
+use Rattle.row.specs.Formed.{RowsFormed}
 use Rattle.row.proofs.Back.{noRow, rows-length, rows-count, row-no}
 use Rattle.lowering.proofs.rows.Bytes.{count-rows}
-use Rattle.lowering.proofs.rows.Formed.{rows-fit}
+use Rattle.lowering.proofs.rows.Formed.{rows-fit, rows-formed}
 use Rattle.lowering.proofs.drawing.Fine.{fine}
 use Rattle.lowering.proofs.answer.Lacking.{lower-good, lower-refused}
 use Rattle.ground.proofs.Pieces.{Each, each-at, getD-map}
@@ -161,6 +162,10 @@ module _ {s bs : List ℕ} (read : Read s bs) {told : Lowered} {ids : List ℕ} 
     rows-taken =
         let written = encodeRows (rowsOf (linesOf s) 0) in
         rw (on-lines .rows-are, good-is) (take-at written (drop (length written) rows₀) (count * rowBytes) written-length)
+
+    -- the rows are well formed
+    pub well-formed : RowsFormed (take (count * rowBytes) rows)
+    well-formed = rw rows-taken (rows-formed (linesOf s) (fine (linesOf s) passes) 0 (omega (arith, slots-most (linesOf s) few)) (x-fits s (read .short)))
 
     -- is all there
     pub ids-size : length (take next ids) ≡ next

@@ -7,3 +7,4 @@ pub mod Looked
 pub mod Guesses
 pub mod Steps
 pub mod Pushes
+pub mod Names

@@ -3,8 +3,8 @@ use mathlib.Core.Path.{_≡_, refl}
 use mathlib.Core.Bool.{true, false}
 use mathlib.Core.List.{List, [], _∷_, _++_, map}
 use Prim.Native.Nat.{ℕ}
-use lib.ListN.{take, replicate}
-use Rattle.row.specs.Row.{encodeRow, bytesOf, rowBytes, heldIn}
+use lib.ListN.{take, drop}
+use Rattle.row.specs.Row.{encodeRow, bytesOf, heldIn}
 use Rattle.row.specs.Formed.{rowsTest, rowTest, idsOf}
 
 -- a row of a kind with these ids
@@ -19,7 +19,7 @@ abbrev fixed : List ℕ
 fixed = of 4 1 (0 ∷ []) 4607182418800017408
 
 -- none, one and two rows; then a part of one, a kind that is no rule's, an id too few, an id too many, a third byte of another kind, none where
--- one is due, a number that the kind has not, and another mark
+-- one is due, one above those that there are, a number that the kind has not, an id behind the ids, and another mark
 pub tested :
     map rowsTest (
     []
@@ -31,9 +31,11 @@ pub tested :
     ∷ of 5 0 (0 ∷ 1 ∷ 2 ∷ 3 ∷ 4 ∷ []) 0
     ∷ of 5 1 (0 ∷ 1 ∷ 2 ∷ 3 ∷ []) 0
     ∷ of 4 0 (0 ∷ []) 0
+    ∷ of 4 3 (0 ∷ []) 0
     ∷ of 5 0 (0 ∷ 1 ∷ 2 ∷ 3 ∷ []) 1
-    ∷ replicate rowBytes 0
+    ∷ (take 35 vertical ++ 1 ∷ drop 36 vertical)
+    ∷ (83 ∷ drop 1 vertical)
     ∷ [])
-    ≡ true ∷ true ∷ true ∷ false ∷ false ∷ false ∷ false ∷ false ∷ false ∷ false ∷ false ∷ []
+    ≡ true ∷ true ∷ true ∷ false ∷ false ∷ false ∷ false ∷ false ∷ false ∷ false ∷ false ∷ false ∷ false ∷ []
 unfolding rowsTest rowTest idsOf heldIn encodeRow bytesOf
 tested = refl
