@@ -14,28 +14,28 @@ use Rattle.lowering.specs.Slots.{Slot, slot, x-axis, y-axis, no-axis}
 use Rattle.lowering.specs.Fields.{fieldOf, of-point, of-circle, of-arc, idOf}
 
 module _ (l : Label) where
-  -- x and y of a part
-  abbrev inPoint : List Slot
-  inPoint = slot l [] x-axis ∷ slot l [] y-axis ∷ []
+  -- the names of the components of a point, a circle and an arc
+  abbrev pointNames : List Slot
+  pointNames = slot l [] x-axis ∷ slot l [] y-axis ∷ []
 
-  abbrev inCircle : List Slot
-  inCircle = slot l (bytes ".center") x-axis ∷ slot l (bytes ".center") y-axis ∷ slot l (bytes ".radius") no-axis ∷ []
+  abbrev circleNames : List Slot
+  circleNames = slot l (bytes ".center") x-axis ∷ slot l (bytes ".center") y-axis ∷ slot l (bytes ".radius") no-axis ∷ []
 
-  abbrev inArc : List Slot
-  inArc =
+  abbrev arcNames : List Slot
+  arcNames =
       slot l (bytes ".a") x-axis ∷ slot l (bytes ".a") y-axis ∷ slot l (bytes ".b") x-axis ∷ slot l (bytes ".b") y-axis
       ∷ slot l (bytes ".center") x-axis ∷ slot l (bytes ".center") y-axis ∷ []
 
   -- the fields that they stand for
   pub fields-named : (p : Point) (c : Circle) (a : Arc)
-      → (map (fieldOf (point p)) inPoint ≡ p .x ∷ p .y ∷ [])
-      × (map (fieldOf (circle c)) inCircle ≡ c .center .x ∷ c .center .y ∷ c .radius ∷ [])
-      × (map (fieldOf (arc a)) inArc ≡ a .a .x ∷ a .a .y ∷ a .b .x ∷ a .b .y ∷ a .center .x ∷ a .center .y ∷ [])
+      → (map (fieldOf (point p)) pointNames ≡ p .x ∷ p .y ∷ [])
+      × (map (fieldOf (circle c)) circleNames ≡ c .center .x ∷ c .center .y ∷ c .radius ∷ [])
+      × (map (fieldOf (arc a)) arcNames ≡ a .a .x ∷ a .a .y ∷ a .b .x ∷ a .b .y ∷ a .center .x ∷ a .center .y ∷ [])
   fields-named p c a = (refl, refl, refl)
 
   -- the ids that they stand for: an arc's `.a` is its start, and `.b` its end
   pub ids-named : (p : PointVars) (c : CircleVars) (a : ArcVars)
-      → (map (idOf (of-point p)) inPoint ≡ p .x ∷ p .y ∷ [])
-      × (map (idOf (of-circle c)) inCircle ≡ c .center .x ∷ c .center .y ∷ c .radius ∷ [])
-      × (map (idOf (of-arc a)) inArc ≡ a .start .x ∷ a .start .y ∷ a .end .x ∷ a .end .y ∷ a .center .x ∷ a .center .y ∷ [])
+      → (map (idOf (of-point p)) pointNames ≡ p .x ∷ p .y ∷ [])
+      × (map (idOf (of-circle c)) circleNames ≡ c .center .x ∷ c .center .y ∷ c .radius ∷ [])
+      × (map (idOf (of-arc a)) arcNames ≡ a .start .x ∷ a .start .y ∷ a .end .x ∷ a .end .y ∷ a .center .x ∷ a .center .y ∷ [])
   ids-named p c a = (refl, refl, refl)
