@@ -14,13 +14,13 @@ use Rattle.row.specs.Row.{rowBytes}
 use Rattle.record.specs.Kinds.{firstRule, lastRule}
 use Rattle.record.specs.Record.{mostRecords}
 use Rattle.record.specs.Entry.{Entry}
-use Rattle.index.specs.Labels.{kindNo, within}
+use Rattle.names.specs.Labels.{kindNo, within}
 use Rattle.drawing.specs.Check.{countBelow}
 use Rattle.lowering.specs.Slots.{slots}
 use Rattle.lowering.specs.Rows.{rulesOf}
 use Rattle.lowering.specs.Lower.{Room}
 use Rattle.lowering.specs.Demand.{Enough}
-use Rattle.index.proofs.Laws.{within-one}
+use Rattle.names.proofs.Laws.{within-one}
 use Rattle.lowering.proofs.drawing.Counts.{count-le, rules-all, slot-count}
 
 -- room for the slots and for the rows of any drawing that a page holds

@@ -11,8 +11,8 @@ use Rattle.record.specs.Kinds.{kindAt, newPoint, newArc, pairGuess, numberGuess
 use Rattle.record.specs.Entry.{Label, Entry, entryAt, labelNo}
 use Rattle.record.specs.Formed.{places}
 use Rattle.record.proofs.Told.{says-malformed}
-use Rattle.index.specs.Labels.{kindNo, nameNo, labelled}
-use Rattle.index.proofs.Laws.{says-same, says-within}
+use Rattle.names.specs.Labels.{kindNo, nameNo, labelled}
+use Rattle.names.proofs.Laws.{says-same, says-within}
 use Rattle.drawing.specs.Needs.{Shape, point, circle, arc, declaring, Part, parts, Need, needAt}
 use Rattle.drawing.specs.Faults as faults
 use faults.{Meets, Guessed, AnyUnguessed, WithoutGuess, Fault, malformed, declared-twice, wrong-label, no-such-part, guessed-twice, without-guess, order, Holds}

@@ -9,7 +9,7 @@ use Rattle.text.specs.Text.{runTo, wordAt, byteOn, labelAt, labelOn, suffixedOn
 use Rattle.record.specs.Entry.{Label, Entry}
 use Rattle.record.specs.Sound.{spelledTest, soundTest}
 use Rattle.record.specs.Formed.{malformedTest}
-use Rattle.index.specs.Labels.{labelled}
+use Rattle.names.specs.Labels.{labelled}
 use Rattle.drawing.specs.declared.Checked.{Checked}
 use Rattle.refusal.specs.Refusal.{refusal}
 use Rattle.drawing.specs.declared.Checked.the-variants.{Passed, Refused}

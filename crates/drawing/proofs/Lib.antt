@@ -1,7 +1,10 @@
 pub mod Laws
 pub mod Agree
-pub mod Read
-pub mod Order
 pub mod Told
+pub mod Numbers
+pub mod Ranks
+pub mod Order
+pub mod Spelled
+pub mod Judging
 pub mod Examples
 pub mod Only

@@ -1,33 +1,34 @@
--- The check of a well formed list: 30 is told nowhere, and one turn of the loop goes on to the next fault of the order behind it. Assumes nothing.
+-- The check of a drawing in its order: 30 first, then what one pass over the records tells by their numbers. Assumes nothing.
 use mathlib.Core.Path.{_≡_, refl, sym, ap, _∙_, subst}
 use mathlib.Core.Bool.{Bool, false}
 use mathlib.Core.Option.{Option, none, some}
 use mathlib.Core.List.{List, [], _∷_, map}
-use Prim.Native.Nat.{ℕ, suc, _+_, _≤_, _<_}
+use Prim.Native.Nat.{ℕ, zero, suc, _≤_, _<_}
 use native.Mathlib.Nat.{le-refl}
-use native.Mathlib.Numerals.{add-one}
 use native.Mathlib.Omega.{arith}
-use lib.ListN.{length, getD, drop, drop-of-length-le, List·getD-eq-default}
-use lib.Seq.{drop-cons}
-use Rattle.ground.proofs.Pieces.{Each, each-at, getD-map}
+use lib.ListN.{length, getD, List·getD-eq-default}
+use Rattle.ground.proofs.Pieces.{Each, getD-map}
+use Rattle.refusal.specs.declared.Refusal.{Refusal}
 use Rattle.refusal.specs.Refusal.{refusal}
 use Rattle.refusal.specs.First.{passed, refused, tell, first, lowest, orElse}
+use Rattle.refusal.specs.Worst.{rankAt, Worst, worst, ranked}
 use Rattle.refusal.proofs.Search.{none-iff}
+use Rattle.refusal.proofs.ByPlaces.{by-places}
+use Rattle.record.specs.declared.formed.Formed.{Formed}
 use Rattle.record.specs.declared.formed.Formed.the-variants as formed
 use Rattle.record.specs.Kinds.{newPoint, newCircle, newArc, firstRule, lastRule}
 use Rattle.record.specs.Decode.{countOf, decodeAt}
 use Rattle.record.specs.Entry.{Entry, noEntry}
-use Rattle.refusal.specs.declared.Refusal.{Refusal}
 use Rattle.record.specs.Formed.{WellFormed, entries, Malformed, places, malformedTest, verdict, formedOf}
 use Rattle.record.proofs.Told.{says-malformed, passed-iff}
 use Rattle.record.proofs.WellFormed.{well-formed-iff}
-use Rattle.index.specs.Labels.{drawn, kindNo, lowestOr}
-use Rattle.index.proofs.Drawn.{drawn-length, drawn-kind, entries-drawn}
-use Rattle.index.proofs.First.{lowest-is}
+use Rattle.names.specs.Labels.{drawn, kindNo}
+use Rattle.names.proofs.Drawn.{drawn-length, drawn-kind, entries-drawn}
 use Rattle.drawing.specs.declared.Checked.the-variants as checked
+use Rattle.drawing.specs.declared.Counts.{Counts}
 use Rattle.drawing.specs.Faults as faults
 use faults.{Fault, malformed, behind30, numberOf}
-use Rattle.drawing.specs.Steps.{testNo}
+use Rattle.drawing.specs.Steps.{thirtyOr, CountsTo}
 use Rattle.drawing.specs.Check as check
 use check.{twice, wrongLabelTest, noSuchPartTest, withoutGuessTest, test, checkOf, countBelow, countWithin, answer, checkedOf}
 use Rattle.drawing.proofs.Laws.{count-kinds}
@@ -42,32 +43,35 @@ faultAt k = getD behind30 k malformed
 pub number-at : (k : ℕ) → k < length behind30 → getD (map numberOf behind30) k 0 ≡ numberOf (faultAt k)
 number-at k h = getD-map numberOf behind30 k malformed 0 h
 
--- the test by a fault's number is the fault's
-by-numbers : (es : List Entry) → Each (λ f. testNo es (numberOf f) ≡ test es f) behind30
-by-numbers es = (refl, (refl, (refl, (refl, (refl, tt)))))
+-- ---- one pass
 
--- ---- a turn of the loop
+-- a place in the order that is one of its faults', and one past the last
+pick-at : (k i : ℕ) → k < length behind30 → ranked behind30 k i ≡ refused (faultAt k) i
+pick-at zero i h = refl
+pick-at (suc zero) i h = refl
+pick-at (suc (suc zero)) i h = refl
+pick-at (suc (suc (suc zero))) i h = refl
+pick-at (suc (suc (suc (suc zero)))) i h = refl
+pick-at (suc (suc (suc (suc (suc k))))) i h = absurd (omega (arith, h))
 
--- i is what was looked for by the number of fault k
-module _ (es : List Entry) (n k : ℕ) (h : k < length behind30) (i : ℕ) (e : i ≡ lowestOr n (testNo es (getD (map numberOf behind30) k 0))) where
-  by-fault : i ≡ lowestOr n (test es (faultAt k))
-  by-fault =
-      let is = each-at (λ (f : Fault). testNo es (numberOf f) ≡ test es f) behind30 malformed (by-numbers es) k h in
-      e ∙ ap (lowestOr n) (rw (number-at k h) is)
+pick-past : (k i : ℕ) → length behind30 ≤ k → ranked behind30 k i ≡ passed
+pick-past zero i h = absurd (omega (arith, h))
+pick-past (suc zero) i h = absurd (omega (arith, h))
+pick-past (suc (suc zero)) i h = absurd (omega (arith, h))
+pick-past (suc (suc (suc zero))) i h = absurd (omega (arith, h))
+pick-past (suc (suc (suc (suc zero)))) i h = absurd (omega (arith, h))
+pick-past (suc (suc (suc (suc (suc k))))) i h = refl
 
-  open-up : first (drop k behind30) (test es) n ≡ tell (faultAt k) (lowest n (test es (faultAt k))) (first (drop (k + 1) behind30) (test es) n)
-  unfolding first
-  open-up = rw (add-one, drop-cons behind30 k malformed h) refl
+-- what the pass found
+module _ (t : Fault → ℕ → Bool) (n rank place : ℕ) (e : record { rank = rank; place = place } ≡ worst (length behind30) (rankAt behind30 t) n) where
+  told-by : first behind30 t n ≡ ranked behind30 rank place
+  told-by = by-places t n behind30 ∙ ap (λ (w : Worst). ranked behind30 (w .rank) (w .place)) (sym e)
 
-  pub stops : i < n → first (drop k behind30) (test es) n ≡ refused (faultAt k) i
-  stops g = open-up ∙ ap (λ (o : Option ℕ). tell (faultAt k) o (first (drop (k + 1) behind30) (test es) n)) (lowest-is n (test es (faultAt k)) i by-fault .0 g)
+  pub found : rank < length behind30 → first behind30 t n ≡ refused (faultAt rank) place
+  found h = told-by ∙ pick-at rank place h
 
-  pub goes-on : n ≤ i → first (drop k behind30) (test es) n ≡ first (drop (k + 1) behind30) (test es) n
-  goes-on g = open-up ∙ ap (λ (o : Option ℕ). tell (faultAt k) o (first (drop (k + 1) behind30) (test es) n)) (lowest-is n (test es (faultAt k)) i by-fault .1 g)
-
-pub ends : (t : Fault → ℕ → Bool) (n k : ℕ) → length behind30 ≤ k → first (drop k behind30) t n ≡ passed
-unfolding first
-ends t n k h = rw (drop-of-length-le behind30 h) refl
+  pub found-none : length behind30 ≤ rank → first behind30 t n ≡ passed
+  found-none h = told-by ∙ pick-past rank place h
 
 -- ---- only 30 is told at the place after the last entry
 
@@ -117,24 +121,28 @@ module _ (text bs : List ℕ) (w : WellFormed text bs) where
       ∙ ap (first behind30 (test es)) (drawn-length text bs)
 
   -- a fault behind 30 that is told
-  pub told-behind : (k i : ℕ) → k < length behind30 → checkOf (drawn text bs) ≡ refused (faultAt k) i
-      → checked.Refused (refusal (getD (map numberOf behind30) k 0) i) ≡ checkedOf (entries text bs)
+  pub told-behind : (k i : ℕ) → k < length behind30 → first behind30 (test (drawn text bs)) (countOf bs) ≡ refused (faultAt k) i
+      → checkedOf (entries text bs) ≡ checked.Refused (refusal (getD (map numberOf behind30) k 0) i)
   unfolding checkedOf
-  told-behind k i h e = rw (entries-drawn text bs w, e, number-at k h) refl
+  told-behind k i h e = rw (entries-drawn text bs w, check-is, e, number-at k h) refl
 
-  count-is : (low high n : ℕ) → n ≡ countBelow (λ i. decodeAt bs i .kind) low high (countOf bs) → n ≡ countWithin (drawn text bs) low high
+  count-is : (low high n : ℕ) → n ≡ countBelow (λ i. decodeAt bs i .kind) low high (countOf bs) → countWithin (drawn text bs) low high ≡ n
   count-is low high n e =
       let es = drawn text bs in
-      e
-      ∙ sym (ap (countBelow (λ i. decodeAt bs i .kind) low high) (drawn-length text bs))
-      ∙ sym (count-kinds (kindNo es) (λ i. decodeAt bs i .kind) low high (length es) (drawn-kind text bs))
+      count-kinds (kindNo es) (λ i. decodeAt bs i .kind) low high (length es) (drawn-kind text bs)
+      ∙ ap (countBelow (λ i. decodeAt bs i .kind) low high) (drawn-length text bs)
+      ∙ sym e
 
   -- nothing that is told
-  pub told-none : (p c a r : ℕ) → checkOf (drawn text bs) ≡ passed
-      → p ≡ countBelow (λ i. decodeAt bs i .kind) newPoint newPoint (countOf bs)
-      → c ≡ countBelow (λ i. decodeAt bs i .kind) newCircle newCircle (countOf bs)
-      → a ≡ countBelow (λ i. decodeAt bs i .kind) newArc newArc (countOf bs)
-      → r ≡ countBelow (λ i. decodeAt bs i .kind) firstRule lastRule (countOf bs)
-      → checked.Passed p c a r ≡ checkedOf (entries text bs)
+  pub told-none : (c : Counts) → first behind30 (test (drawn text bs)) (countOf bs) ≡ passed → CountsTo (λ i. decodeAt bs i .kind) (countOf bs) c
+      → checked.Passed (c .points) (c .circles) (c .arcs) (c .rows) ≡ checkedOf (entries text bs)
   unfolding checkedOf
-  told-none p c a r e ep ec ea er = rw (entries-drawn text bs w, e, count-is newPoint newPoint p ep, count-is newCircle newCircle c ec, count-is newArc newArc a ea, count-is firstRule lastRule r er) refl
+  told-none c e counts = rw (entries-drawn text bs w, check-is, e, count-is newPoint newPoint (c .points) (counts .points), count-is newCircle newCircle (c .circles) (counts .circles), count-is newArc newArc (c .arcs) (counts .arcs), count-is firstRule lastRule (c .rows) (counts .rows)) refl
+
+-- 30, or else what is told of a well formed list
+pub told-right : (text bs : List ℕ) (other : Refusal) → (WellFormed text bs → checkedOf (entries text bs) ≡ checked.Refused other) → thirtyOr (formedOf (entries text bs)) other ≡ checkedOf (entries text bs)
+told-right text bs other f = go (formedOf (entries text bs)) refl
+  where
+    go : (o : Formed) → formedOf (entries text bs) ≡ o → thirtyOr o other ≡ checkedOf (entries text bs)
+    go (formed.Refused r) e = told-30 (entries text bs) r e
+    go formed.WellFormed e = sym (f (well-formed-iff text bs .0 e))

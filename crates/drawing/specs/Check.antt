@@ -9,7 +9,7 @@ use Rattle.refusal.specs.First.{anyBelow, Answer, passed, refused, first}
 use Rattle.record.specs.Kinds.{kindAt, newPoint, newCircle, newArc, firstRule, lastRule, pairGuess, numberGuess}
 use Rattle.record.specs.Entry.{Label, Entry, entryAt, labelNo}
 use Rattle.record.specs.Formed.{places, malformedTest}
-use Rattle.index.specs.Labels.{kindNo, nameNo, same, within, labelled}
+use Rattle.names.specs.Labels.{kindNo, nameNo, same, within, labelled}
 use Rattle.drawing.specs.declared.Checked.{Checked}
 use Rattle.drawing.specs.declared.Checked.the-variants as checked
 use Rattle.drawing.specs.Needs.{Shape, point, circle, arc, declaring, Part, parts, Need, needAt}

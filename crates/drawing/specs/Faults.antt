@@ -8,7 +8,7 @@ use Rattle.refusal.specs.First.{SomeBelow}
 use Rattle.record.specs.Kinds.{kindAt, Declaration, Rule, Guess}
 use Rattle.record.specs.Entry.{Label, Entry, entryAt, labelNo}
 use Rattle.record.specs.Formed.{Malformed}
-use Rattle.index.specs.Labels.{kindNo, nameNo}
+use Rattle.names.specs.Labels.{kindNo, nameNo}
 use Rattle.drawing.specs.Needs.{Shape, declaring, Part, parts, Need, needAt}
 
 -- ---- labels of the drawing

@@ -1,4 +1,6 @@
 pub mod Needs
 pub mod Faults
 pub mod Check
+pub mod Numbers
+pub mod Judged
 pub mod Steps

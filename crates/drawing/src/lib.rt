@@ -1,25 +1,24 @@
-// The added check of a drawing: 30, then the other faults in their order.
+// The added check of a drawing: 30, then the other faults in their order, by the drawing's names.
 mod faults;
-mod search;
 
 ghost use mathlib.Core.Path.{_≡_};
-ghost use mathlib.Core.Bool.{cond};
-ghost use Rattle.record.specs.Formed.{WellFormed, entries};
+ghost use Prim.Native.Nat.{_≤_, _<_};
+ghost use Rattle.refusal.specs.Refusal.{refusal};
+ghost use Rattle.record.specs.Record.{mostRecords};
 ghost use Rattle.record.specs.Decode.{countOf as records-in, decodeAt};
-ghost use Rattle.index.specs.Labels.{drawn};
-ghost use Rattle.drawing.specs.Check.{countBelow, checkedOf};
-ghost use Rattle.drawing.specs.Steps.{CheckTables};
-use faults::DECLARED_TWICE;
-use faults::GUESSED_TWICE;
-use faults::NO_SUCH_PART;
-use faults::WITHOUT_GUESS;
-use faults::WRONG_LABEL;
-use faults::lowest_bad;
-use index::CHAINS;
-use index::chain;
-use index::labels::kind_at;
+ghost use Rattle.record.specs.Formed.{entries, formedOf};
+ghost use Rattle.drawing.specs.Check.{checkedOf};
+ghost use Rattle.drawing.specs.Judged.{Judges};
+ghost use Rattle.drawing.specs.Steps.{thirtyOr, OneMore, CountsTo, FewCounts, ChecksInto};
+use faults::FAULTS;
+use faults::worst;
+use names::GUESSES;
+use names::NAMES;
+use names::labels::kind_at;
+use names::resolve;
 use record::SIZE;
 use record::formed::Formed;
+use record::formed::MALFORMED;
 use record::formed::well_formed;
 use record::kinds::FIRST_RULE;
 use record::kinds::KINDS;
@@ -27,20 +26,10 @@ use record::kinds::LAST_RULE;
 use record::kinds::NEW_ARC;
 use record::kinds::NEW_CIRCLE;
 use record::kinds::NEW_POINT;
-use record::kinds::NUMBER_GUESS;
-use record::kinds::PAIR_GUESS;
 use refusal::Refusal;
 
 // The numbers of the faults behind 30, in the order in which they are told.
-const FAULTS: usize = 5;
-
-const ORDER: [u8; FAULTS] = [
-    DECLARED_TWICE,
-    WRONG_LABEL,
-    NO_SUCH_PART,
-    GUESSED_TWICE,
-    WITHOUT_GUESS,
-];
+const ORDER: [u8; 5] = [31, 32, 33, 34, 35];
 
 // What is told of a drawing: how many points, circles, arcs and rows it has, or a refusal.
 pub enum Checked {
@@ -53,55 +42,137 @@ pub enum Checked {
     Refused(Refusal),
 }
 
-// 1 where a test passes, and else 0.
-fn one_if(test: bool) -> usize
-    ensures { λ r. ⌜ r ≡ cond test 1 0 ⌝ }
-{
-    if test { 1 } else { 0 }
+// What is told of a drawing, with the names and the guesses of one that passes; of any other the tables have zeros.
+pub struct Judged {
+    pub checked: Checked,
+    pub names: [u16; NAMES],
+    pub guesses: [u16; GUESSES],
 }
 
-// How many records are of a kind from low to high.
-fn count(records: &[u8], low: u8, high: u8) -> usize
-    ensures { λ r. ⌜ r ≡ countBelow (λ i. decodeAt (now (records .entry)) i .kind) low high (records-in (now (records .entry))) ⌝ }
+// How many points, circles, arcs and rows there are.
+struct Counts {
+    points: usize,
+    circles: usize,
+    arcs: usize,
+    rows: usize,
+}
+
+// One record more.
+fn counted(c: Counts, kind: u8) -> Counts
+    requires { ⌜ FewCounts mostRecords c ⌝ }
+    ensures { λ r. ⌜ OneMore c kind r ⌝ }
+{
+    let points = c.points;
+    let circles = c.circles;
+    let arcs = c.arcs;
+    let rows = c.rows;
+    match kind {
+        NEW_POINT => Counts {
+            points: points + 1,
+            circles,
+            arcs,
+            rows,
+        },
+        NEW_CIRCLE => Counts {
+            points,
+            circles: circles + 1,
+            arcs,
+            rows,
+        },
+        NEW_ARC => Counts {
+            points,
+            circles,
+            arcs: arcs + 1,
+            rows,
+        },
+        FIRST_RULE..=LAST_RULE => Counts {
+            points,
+            circles,
+            arcs,
+            rows: rows + 1,
+        },
+        _ => c,
+    }
+}
+
+// How many of each the records have.
+fn count(records: &[u8]) -> Counts
+    requires { ⌜ records-in (now records) ≤ mostRecords ⌝ }
+    ensures { λ r. ⌜ CountsTo (λ i. decodeAt (now (records .entry)) i .kind) (records-in (now (records .entry))) r ⌝ }
 {
     let n = records.len() / SIZE;
-    let mut m = 0;
+    let mut c = Counts {
+        points: 0,
+        circles: 0,
+        arcs: 0,
+        rows: 0,
+    };
     let mut i = 0;
     while i < n {
-        let kind = kind_at(records, i);
-        m += one_if((low <= kind) & (kind <= high));
+        c = counted(c, kind_at(records, i));
         i += 1;
     }
-    m
+    c
 }
 
-// The faults behind 30 of a well formed list in their order, and within one the lowest record.
-fn check_by(
-    kinds: &[[u8; 8]; 26],
+// 30 of a list that is not well formed, and else another refusal.
+fn behind_30(text: &[u8], records: &[u8], number: u8, place: usize) -> Checked
+    ensures { λ r. ⌜ r ≡ thirtyOr (formedOf (entries (now (text .entry)) (now (records .entry)))) (refusal number place) ⌝ }
+{
+    if let Formed::Refused(r) = well_formed(text, records) {
+        return Checked::Refused(r);
+    }
+    Checked::Refused(Refusal { number, place })
+}
+
+// The check of a drawing, which puts the names and the guesses of one that passes into two tables.
+fn check_into(
     text: &[u8],
     records: &[u8],
-    chains: &[u16],
-    guess_chains: &[u16],
+    names: &mut [u16; NAMES],
+    guesses: &mut [u16; GUESSES],
 ) -> Checked
-    requires { ⌜ WellFormed (now text) (now records) × CheckTables (drawn (now text) (now records)) (now kinds) (now chains) (now «guess_chains») ⌝ }
-    ensures { λ r. ⌜ r ≡ checkedOf (entries (now (text .entry)) (now (records .entry))) ⌝ }
+    ensures { λ r. ⌜ ChecksInto (now (text .entry)) (now (records .entry)) r (now (names .exit)) (now (guesses .exit)) ⌝ }
 {
-    let n = records.len() / SIZE;
-    let order = ORDER;
-    let mut k = 0;
-    while k < FAULTS {
-        let number = order[k];
-        let i = lowest_bad(kinds, text, records, chains, guess_chains, number);
-        if i < n {
-            return Checked::Refused(Refusal { number, place: i });
-        }
-        k += 1;
+    if !resolve(text, records, names, guesses) {
+        return behind_30(text, records, MALFORMED, 0);
     }
+    let kinds = KINDS;
+    let w = worst(&kinds, records, names, guesses);
+    if w.rank < FAULTS {
+        let order = ORDER;
+        let rank = w.rank as usize;
+        return behind_30(text, records, order[rank], w.place);
+    }
+    let c = count(records);
     Checked::Passed {
-        points: count(records, NEW_POINT, NEW_POINT),
-        circles: count(records, NEW_CIRCLE, NEW_CIRCLE),
-        arcs: count(records, NEW_ARC, NEW_ARC),
-        rows: count(records, FIRST_RULE, LAST_RULE),
+        points: c.points,
+        circles: c.circles,
+        arcs: c.arcs,
+        rows: c.rows,
+    }
+}
+
+// The check of a drawing, with the names and the guesses of one that passes.
+pub fn judge(text: &[u8], records: &[u8]) -> Judged
+    ensures { λ r. ⌜ Judges (entries (now (text .entry)) (now (records .entry))) r ⌝ }
+{
+    let mut names = [0u16; NAMES];
+    let mut guesses = [0u16; GUESSES];
+    let checked = check_into(text, records, &mut names, &mut guesses);
+    if let Checked::Refused(r) = checked {
+        let no_names = [0u16; NAMES];
+        let no_guesses = [0u16; GUESSES];
+        return Judged {
+            checked: Checked::Refused(r),
+            names: no_names,
+            guesses: no_guesses,
+        };
+    }
+    Judged {
+        checked,
+        names,
+        guesses,
     }
 }
 
@@ -109,13 +180,7 @@ fn check_by(
 pub fn check(text: &[u8], records: &[u8]) -> Checked
     ensures { λ r. ⌜ r ≡ checkedOf (entries (now (text .entry)) (now (records .entry))) ⌝ }
 {
-    if let Formed::Refused(r) = well_formed(text, records) {
-        return Checked::Refused(r);
-    }
-    let kinds = KINDS;
-    let mut chains = [0u16; CHAINS];
-    chain(text, records, NEW_POINT, NEW_ARC, &mut chains);
-    let mut guess_chains = [0u16; CHAINS];
-    chain(text, records, PAIR_GUESS, NUMBER_GUESS, &mut guess_chains);
-    check_by(&kinds, text, records, &chains, &guess_chains)
+    let mut names = [0u16; NAMES];
+    let mut guesses = [0u16; GUESSES];
+    check_into(text, records, &mut names, &mut guesses)
 }

@@ -1,7 +1,7 @@
 -- A drawing that the check passes can't go wrong later: the third demand. What the check tells of it makes lowering answer without refusal, and what
 -- is written then is what the laws of slots, values and rows say. Assumes nothing.
 use mathlib.Core.Path.{_≡_, refl, _∙_}
-use mathlib.Core.List.{List, []}
+use mathlib.Core.List.{List}
 use Prim.Native.Nat.{ℕ, _+_, _*_, _≤_}
 use native.Mathlib.Omega.{arith}
 use lib.ListN.{length, getD, drop, List·getD-append}

@@ -12,7 +12,7 @@ use Rattle.layout.specs.declared.Stage.the-variants.{Done}
 use Rattle.record.specs.Entry.{Entry}
 use Rattle.record.specs.Sound.{spelledTest, soundTest}
 use Rattle.record.specs.Formed.{malformedTest}
-use Rattle.index.specs.Labels.{labelled, lowestOr}
+use Rattle.names.specs.Labels.{labelled, lowestOr}
 use Rattle.drawing.specs.Check as check
 use check.{twice, namedAt, someNamed, guessAt, guessed, wrongPlace, wrongLabelTest, noSuchPartTest, withoutGuessTest, checkOf, countBelow}
 use Rattle.lowering.specs.declared.Lowered.{Lowered}

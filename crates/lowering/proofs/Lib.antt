@@ -3,6 +3,7 @@ pub mod slots
 pub mod ids
 pub mod rows
 pub mod answer
+pub mod Sketched
 pub mod Refusals
 pub mod Demand
 pub mod Examples

@@ -2,3 +2,4 @@
 pub mod Lacking
 pub mod Ends
 pub mod Joining
+pub mod Handed

@@ -1,4 +1,3 @@
 -- What a drawing that passes the check is like.
 pub mod Counts
 pub mod Fine
-pub mod Found

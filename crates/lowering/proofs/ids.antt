@@ -2,5 +2,4 @@
 pub mod Tested
 pub mod Named
 pub mod Spans
-pub mod Six
-pub mod Numbers
+pub mod Firsts

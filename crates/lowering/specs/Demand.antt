@@ -19,7 +19,7 @@ use Rattle.layout.specs.Run.{Distinct}
 use Rattle.record.specs.Kinds.{Rule, Guess, firstRule, lastRule}
 use Rattle.record.specs.Entry.{Label, Entry, entryAt, labelNo}
 use Rattle.record.specs.Formed.{entries}
-use Rattle.index.specs.Labels.{kindNo, nameNo}
+use Rattle.names.specs.Labels.{kindNo, nameNo}
 use Rattle.drawing.specs.declared.Checked.the-variants as checked
 use Rattle.drawing.specs.Needs.{Shape, point, circle, arc, declaring}
 use Rattle.drawing.specs.Check.{countBelow, checkedOf}

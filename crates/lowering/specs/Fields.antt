@@ -10,7 +10,7 @@ use Rattle.layout.specs.declared.PointVars.{PointVars}
 use Rattle.layout.specs.declared.CircleVars.{CircleVars}
 use Rattle.layout.specs.declared.ArcVars.{ArcVars}
 use Rattle.layout.specs.Slots.{Figure, point, circle, arc}
-use Rattle.index.specs.Labels.{same}
+use Rattle.names.specs.Labels.{same}
 use Rattle.lowering.specs.Slots.{Slot, y-axis}
 
 -- ---- by a component's name

@@ -5,4 +5,5 @@ pub mod Lower
 pub mod Refusals
 pub mod Offsets
 pub mod Demand
+pub mod Sketch
 pub mod Steps

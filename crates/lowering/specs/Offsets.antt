@@ -8,7 +8,7 @@ use Rattle.ground.specs.Words.{bytes}
 use Rattle.ground.specs.Lists.{sumTo}
 use Rattle.record.specs.Kinds.{kindAt, fixComponent, fixCenter}
 use Rattle.record.specs.Entry.{Label}
-use Rattle.index.specs.Labels.{same}
+use Rattle.names.specs.Labels.{same}
 use Rattle.drawing.specs.Needs.{Shape, point, circle, arc, Need, needAt}
 use Rattle.lowering.specs.Slots.{y-axis, no-axis, size}
 

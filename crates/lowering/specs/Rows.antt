@@ -8,7 +8,7 @@ use Rattle.ground.specs.Words.{bytes}
 use Rattle.record.specs.Kinds.{firstRule, lastRule, fixComponent, fixCenter}
 use Rattle.record.specs.Entry.{Label, Entry}
 use Rattle.row.specs.Row.{Row}
-use Rattle.index.specs.Labels.{same, within}
+use Rattle.names.specs.Labels.{same, within}
 use Rattle.ground.specs.Lists.{flat}
 use Rattle.lowering.specs.Slots.{Slot, slots}
 

@@ -15,7 +15,7 @@ use Rattle.layout.specs.Slots.{sizeOf, slotOf}
 use Rattle.record.specs.Kinds.{pairGuess, numberGuess}
 use Rattle.record.specs.Entry.{Label, Entry, entryAt, labelNo}
 use Rattle.drawing.specs.Needs.{Shape, point, circle, arc, declaring, Part, parts}
-use Rattle.index.specs.Labels.{kindNo, labelled, lowestOr}
+use Rattle.names.specs.Labels.{kindNo, labelled, lowestOr}
 use Rattle.drawing.specs.Check.{countBelow}
 
 -- ---- components

@@ -4,15 +4,14 @@ mod shapes;
 mod spans;
 
 ghost use mathlib.Core.Path.{_≡_};
-ghost use Prim.Native.Nat.{_+_, _*_, _≤_};
+ghost use Prim.Native.Nat.{_≤_};
 ghost use Rattle.record.specs.Record.{mostRecords};
-ghost use Rattle.record.specs.Formed.{entries};
 ghost use Rattle.layout.specs.Run.{slotsFor};
-ghost use Rattle.index.specs.Labels.{drawn};
+ghost use Rattle.record.specs.Formed.{entries};
 ghost use Rattle.lowering.specs.Lower.{Lowers, roomBy};
-ghost use Rattle.lowering.specs.Steps.{Passing, Filled, lackTold};
+ghost use Rattle.lowering.specs.Steps.{Counted, sketchIn, Writable, FilledBy, lackTold};
 use drawing::Checked;
-use drawing::check;
+use drawing::judge;
 use layout::IDS_END;
 use layout::Layout;
 use layout::VARS_PER_ARC;
@@ -58,20 +57,22 @@ fn lack(next: u32, ids: usize, values: usize, room: usize, slots: usize, rows: u
 }
 
 // Fills the slots and the rows of a drawing that passes, with room for them.
-fn fill(
-    text: &[u8],
+fn fill<'a>(
     records: &[u8],
+    names: &'a [u16; 7200],
+    guesses: &'a [u16; 9000],
+    points: usize,
+    circles: usize,
     next: u32,
     ids: &mut [u32],
     values: &mut [f64],
     rows: &mut [u8],
 ) -> Layout
-    requires { ⌜ Passing (drawn (now text) (now records)) next (now ids) (now values) (now rows) ⌝ }
-    ensures { λ r. ⌜ Filled (drawn (now (text .entry)) (now (records .entry))) next (now (ids .entry)) (now (values .entry)) (now (rows .entry)) r (now (ids .exit)) (now (values .exit)) (now (rows .exit)) ⌝ }
+    requires { ⌜ Counted (now records) points circles × Writable (sketchIn (now records) (now names)) next (now rows) ⌝ }
+    ensures { λ r. ⌜ FilledBy (now (records .entry)) (now (names .entry)) (now (guesses .entry)) next (now (ids .entry)) (now (values .entry)) (now (rows .entry)) r (now (ids .exit)) (now (values .exit)) (now (rows .exit)) ⌝ }
 {
-    let l = fill_slots(text, records, next, ids, values);
-    fill_rows(text, records, l, ids, rows);
-    l
+    fill_rows(records, names, points, circles, next, rows);
+    fill_slots(records, guesses, next, ids, values)
 }
 
 // Lowers a drawing from the next id: the check first, then 36, 37, 38, then slots and rows.
@@ -85,7 +86,8 @@ pub fn lower(
 ) -> Lowered
     ensures { λ r. ⌜ Lowers (entries (now (text .entry)) (now (records .entry))) next (now (ids .entry)) (now (values .entry)) (now (rows .entry)) r (now (ids .exit)) (now (values .exit)) (now (rows .exit)) ⌝ }
 {
-    let checked = check(text, records);
+    let judged = judge(text, records);
+    let checked = judged.checked;
     match checked {
         Checked::Refused(r) => Lowered::Refused(r),
         Checked::Passed {
@@ -102,7 +104,17 @@ pub fn lower(
                     place: 0,
                 });
             }
-            let layout = fill(text, records, next, ids, values, rows);
+            let layout = fill(
+                records,
+                &judged.names,
+                &judged.guesses,
+                points,
+                circles,
+                next,
+                ids,
+                values,
+                rows,
+            );
             Lowered::Good {
                 layout,
                 next: next + (slots as u32),

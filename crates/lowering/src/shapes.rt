@@ -1,38 +1,42 @@
 // The shapes of a drawing with their guesses, pushed through the layout: points, circles, arcs, each in record order.
 ghost use mathlib.Core.Path.{_≡_};
-ghost use Prim.Native.Nat.{_≤_, _<_};
-ghost use mathlib.Core.List.{_++_};
-ghost use lib.ListN.{length};
-ghost use Rattle.record.specs.Kinds.{pairGuess, numberGuess};
-ghost use Rattle.record.specs.Decode.{decodeAt};
-ghost use Rattle.record.specs.Entry.{entryAt};
+ghost use Prim.Native.Nat.{_+_, _*_, _≤_, _<_};
+ghost use lib.ListN.{getD};
 ghost use Rattle.record.specs.Record.{mostRecords};
-ghost use Rattle.index.specs.Labels.{drawn, labelled, lowestOr};
-ghost use Rattle.index.specs.Chains.{Chained};
+ghost use Rattle.record.specs.Decode.{countOf as records-in, decodeAt};
+ghost use Rattle.names.specs.Cut.{knownParts};
 ghost use Rattle.layout.specs.Slots.{empty};
 ghost use Rattle.layout.specs.Push.{Push, state, doneOf};
 ghost use Rattle.layout.specs.Steps.{nextAfter};
-ghost use Rattle.lowering.specs.Steps.{pairFor, circleFor, arcFor, shapeFor, shapeOf, layoutAfter, pushedAt, pushedAll, layoutThen, stage, laid, Slotted};
+ghost use Rattle.lowering.specs.Sketch.{pairOf, circleOf, arcOf, figureOf};
+ghost use Rattle.lowering.specs.Steps.{kindsOf, numbersIn, layoutAfter, pushedAt, pushedTo, layoutThen, stage, laid, Slotted};
 use bits::from_bits;
-use index::CHAINS;
-use index::chain;
-use index::find_two;
-use index::labels::kind_at;
-use index::labels::label_at;
 use layout::Arc;
 use layout::Circle;
 use layout::Layout;
 use layout::Point;
 use layout::Pushed;
 use layout::Stepped;
+use names::labels::kind_at;
 use record::Record;
 use record::SIZE;
 use record::decode::decode_record;
 use record::kinds::NEW_ARC;
 use record::kinds::NEW_CIRCLE;
 use record::kinds::NEW_POINT;
-use record::kinds::NUMBER_GUESS;
-use record::kinds::PAIR_GUESS;
+
+// The places that the table of guesses has for each record, and the parts.
+const PARTS: usize = 5;
+
+const WHOLE: usize = 0;
+
+const CENTER: usize = 1;
+
+const RADIUS: usize = 2;
+
+const A: usize = 3;
+
+const B: usize = 4;
 
 // A layout and the next id.
 pub(crate) struct Laid {
@@ -40,85 +44,75 @@ pub(crate) struct Laid {
     pub next: u32,
 }
 
-// The guess whose label is a shape's with a suffix behind it.
-fn guess_of(text: &[u8], records: &[u8], chains: &[u16], label: &[u8], suffix: &[u8]) -> Record
-    requires { ⌜ Chained (drawn (now text) (now records)) pairGuess numberGuess (now chains) ⌝ }
-    ensures { λ r. ⌜ r ≡ decodeAt (now (records .entry)) (lowestOr (length (drawn (now (text .entry)) (now (records .entry)))) (labelled (drawn (now (text .entry)) (now (records .entry))) pairGuess numberGuess (now (label .entry) ++ now (suffix .entry)))) ⌝ }
+// A number of two bytes.
+fn wide(x: u16) -> usize
+    ensures { λ r. ⌜ r ≡ x ⌝ }
 {
-    decode_record(
-        records,
-        find_two(
-            text,
-            records,
-            PAIR_GUESS,
-            NUMBER_GUESS,
-            chains,
-            label,
-            suffix,
-        ),
-    )
+    x as usize
 }
 
-// The pair that a part starts at.
-fn pair_of(text: &[u8], records: &[u8], chains: &[u16], label: &[u8], suffix: &[u8]) -> Point
-    requires { ⌜ Chained (drawn (now text) (now records)) pairGuess numberGuess (now chains) ⌝ }
-    ensures { λ r. ⌜ r ≡ pairFor (drawn (now (text .entry)) (now (records .entry))) (now (label .entry)) (now (suffix .entry)) ⌝ }
+// The guess of a part of the shape that record i declares.
+fn guess_of(records: &[u8], guesses: &[u16; 9000], i: usize, part: usize) -> Record
+    requires { ⌜ (i < mostRecords) × (part < knownParts) ⌝ }
+    ensures { λ r. ⌜ r ≡ decodeAt (now (records .entry)) (getD (now (guesses .entry)) (i * knownParts + part) 0) ⌝ }
 {
-    let guess = guess_of(text, records, chains, label, suffix);
+    decode_record(records, wide(guesses[i * PARTS + part]))
+}
+
+// The pair that a part of it starts at.
+fn pair_of(records: &[u8], guesses: &[u16; 9000], i: usize, part: usize) -> Point
+    requires { ⌜ (i < mostRecords) × (part < knownParts) ⌝ }
+    ensures { λ r. ⌜ r ≡ pairOf (numbersIn (now (records .entry)) (now (guesses .entry)) i) part ⌝ }
+{
+    let guess = guess_of(records, guesses, i, part);
     Point {
         x: from_bits(guess.x),
         y: from_bits(guess.y),
     }
 }
 
-// The circle with a label, as it starts.
-fn circle_of(text: &[u8], records: &[u8], chains: &[u16], label: &[u8]) -> Circle
-    requires { ⌜ Chained (drawn (now text) (now records)) pairGuess numberGuess (now chains) ⌝ }
-    ensures { λ r. ⌜ r ≡ circleFor (drawn (now (text .entry)) (now (records .entry))) (now (label .entry)) ⌝ }
+// The circle that record i declares, as it starts.
+fn circle_of(records: &[u8], guesses: &[u16; 9000], i: usize) -> Circle
+    requires { ⌜ i < mostRecords ⌝ }
+    ensures { λ r. ⌜ r ≡ circleOf (numbersIn (now (records .entry)) (now (guesses .entry)) i) ⌝ }
 {
-    let radius = guess_of(text, records, chains, label, b".radius");
+    let radius = guess_of(records, guesses, i, RADIUS);
     Circle {
-        center: pair_of(text, records, chains, label, b".center"),
+        center: pair_of(records, guesses, i, CENTER),
         radius: from_bits(radius.x),
     }
 }
 
-// The arc with a label, as it starts.
-fn arc_of(text: &[u8], records: &[u8], chains: &[u16], label: &[u8]) -> Arc
-    requires { ⌜ Chained (drawn (now text) (now records)) pairGuess numberGuess (now chains) ⌝ }
-    ensures { λ r. ⌜ r ≡ arcFor (drawn (now (text .entry)) (now (records .entry))) (now (label .entry)) ⌝ }
+// The arc that record i declares, as it starts.
+fn arc_of(records: &[u8], guesses: &[u16; 9000], i: usize) -> Arc
+    requires { ⌜ i < mostRecords ⌝ }
+    ensures { λ r. ⌜ r ≡ arcOf (numbersIn (now (records .entry)) (now (guesses .entry)) i) ⌝ }
 {
     Arc {
-        a: pair_of(text, records, chains, label, b".a"),
-        b: pair_of(text, records, chains, label, b".b"),
-        center: pair_of(text, records, chains, label, b".center"),
+        a: pair_of(records, guesses, i, A),
+        b: pair_of(records, guesses, i, B),
+        center: pair_of(records, guesses, i, CENTER),
     }
 }
 
-// Pushes the shape of a kind that has a label.
+// Pushes the shape of a kind that record i declares.
 fn push_shape(
-    text: &[u8],
     records: &[u8],
-    chains: &[u16],
+    guesses: &[u16; 9000],
     kind: u8,
-    label: &[u8],
+    i: usize,
     l: Layout,
     next: u32,
     ids: &mut [u32],
     values: &mut [f64],
 ) -> Pushed
-    requires { ⌜ Chained (drawn (now text) (now records)) pairGuess numberGuess (now chains) ⌝ }
-    ensures { λ r. ⌜ Push (shapeFor (drawn (now (text .entry)) (now (records .entry))) (shapeOf kind) (now (label .entry))) (state l next (now (ids .entry)) (now (values .entry))) r (now (ids .exit)) (now (values .exit)) ⌝ }
+    requires { ⌜ i < mostRecords ⌝ }
+    ensures { λ r. ⌜ Push (figureOf (numbersIn (now (records .entry)) (now (guesses .entry)) i) kind) (state l next (now (ids .entry)) (now (values .entry))) r (now (ids .exit)) (now (values .exit)) ⌝ }
 {
     match kind {
-        NEW_POINT => l.push_point(
-            next,
-            ids,
-            values,
-            pair_of(text, records, chains, label, b""),
-        ),
-        NEW_CIRCLE => l.push_circle(next, ids, values, circle_of(text, records, chains, label)),
-        _ => l.push_arc(next, ids, values, arc_of(text, records, chains, label)),
+        NEW_POINT => l.push_point(next, ids, values, pair_of(records, guesses, i, WHOLE)),
+        NEW_CIRCLE => l.push_circle(next, ids, values, circle_of(records, guesses, i)),
+        _ => l.push_arc(next, ids, values, arc_of(records, guesses, i)),
     }
 }
 
@@ -144,25 +138,23 @@ fn next_after(p: Pushed, next: u32) -> u32
 
 // Pushes the shape that record i declares, if it is of a kind.
 fn push_at(
-    text: &[u8],
     records: &[u8],
-    chains: &[u16],
+    guesses: &[u16; 9000],
     kind: u8,
     i: usize,
     last: Laid,
     ids: &mut [u32],
     values: &mut [f64],
 ) -> Laid
-    requires { ⌜ Chained (drawn (now text) (now records)) pairGuess numberGuess (now chains) ⌝ }
-    ensures { λ r. ⌜ state (r .layout) (r .next) (now (ids .exit)) (now (values .exit)) ≡ pushedAt (drawn (now (text .entry)) (now (records .entry))) kind (entryAt (drawn (now (text .entry)) (now (records .entry))) i) (state (last .layout) (last .next) (now (ids .entry)) (now (values .entry))) ⌝ }
+    requires { ⌜ i < mostRecords ⌝ }
+    ensures { λ r. ⌜ state (r .layout) (r .next) (now (ids .exit)) (now (values .exit)) ≡ pushedAt (kindsOf (now (records .entry))) (numbersIn (now (records .entry)) (now (guesses .entry))) kind i (state (last .layout) (last .next) (now (ids .entry)) (now (values .entry))) ⌝ }
 {
     if kind_at(records, i) != kind {
         return last;
     }
     let l = last.layout;
     let next = last.next;
-    let label = label_at(text, records, i, 0);
-    let p = push_shape(text, records, chains, kind, label, l, next, ids, values);
+    let p = push_shape(records, guesses, kind, i, l, next, ids, values);
     Laid {
         layout: layout_after(p, l),
         next: next_after(p, next),
@@ -171,22 +163,21 @@ fn push_at(
 
 // Pushes the shapes of a kind, in record order.
 fn push_all(
-    text: &[u8],
     records: &[u8],
-    chains: &[u16],
+    guesses: &[u16; 9000],
     kind: u8,
     start: Laid,
     ids: &mut [u32],
     values: &mut [f64],
 ) -> Laid
-    requires { ⌜ Chained (drawn (now text) (now records)) pairGuess numberGuess (now chains) ⌝ }
-    ensures { λ r. ⌜ state (r .layout) (r .next) (now (ids .exit)) (now (values .exit)) ≡ pushedAll (drawn (now (text .entry)) (now (records .entry))) kind (drawn (now (text .entry)) (now (records .entry))) (state (start .layout) (start .next) (now (ids .entry)) (now (values .entry))) ⌝ }
+    requires { ⌜ records-in (now records) ≤ mostRecords ⌝ }
+    ensures { λ r. ⌜ state (r .layout) (r .next) (now (ids .exit)) (now (values .exit)) ≡ pushedTo (kindsOf (now (records .entry))) (numbersIn (now (records .entry)) (now (guesses .entry))) kind (records-in (now (records .entry))) (state (start .layout) (start .next) (now (ids .entry)) (now (values .entry))) ⌝ }
 {
     let n = records.len() / SIZE;
     let mut last = start;
     let mut i = 0;
     while i < n {
-        last = push_at(text, records, chains, kind, i, last, ids, values);
+        last = push_at(records, guesses, kind, i, last, ids, values);
         i += 1;
     }
     last
@@ -208,54 +199,50 @@ fn step(l: Laid) -> Laid
 
 // Pushes the shapes of a kind, and steps to the next stage.
 fn push_stage(
-    text: &[u8],
     records: &[u8],
-    chains: &[u16],
+    guesses: &[u16; 9000],
     kind: u8,
     start: Laid,
     ids: &mut [u32],
     values: &mut [f64],
 ) -> Laid
-    requires { ⌜ Chained (drawn (now text) (now records)) pairGuess numberGuess (now chains) ⌝ }
-    ensures { λ r. ⌜ state (r .layout) (r .next) (now (ids .exit)) (now (values .exit)) ≡ stage (drawn (now (text .entry)) (now (records .entry))) kind (state (start .layout) (start .next) (now (ids .entry)) (now (values .entry))) ⌝ }
+    requires { ⌜ records-in (now records) ≤ mostRecords ⌝ }
+    ensures { λ r. ⌜ state (r .layout) (r .next) (now (ids .exit)) (now (values .exit)) ≡ stage (kindsOf (now (records .entry))) (numbersIn (now (records .entry)) (now (guesses .entry))) (records-in (now (records .entry))) kind (state (start .layout) (start .next) (now (ids .entry)) (now (values .entry))) ⌝ }
 {
-    step(push_all(text, records, chains, kind, start, ids, values))
+    step(push_all(records, guesses, kind, start, ids, values))
 }
 
 // Lays out all points, then all circles, then all arcs, from the next id on.
 fn lay(
-    text: &[u8],
     records: &[u8],
-    chains: &[u16],
+    guesses: &[u16; 9000],
     next: u32,
     ids: &mut [u32],
     values: &mut [f64],
 ) -> Laid
-    requires { ⌜ Chained (drawn (now text) (now records)) pairGuess numberGuess (now chains) ⌝ }
-    ensures { λ r. ⌜ state (r .layout) (r .next) (now (ids .exit)) (now (values .exit)) ≡ laid (drawn (now (text .entry)) (now (records .entry))) (state empty next (now (ids .entry)) (now (values .entry))) ⌝ }
+    requires { ⌜ records-in (now records) ≤ mostRecords ⌝ }
+    ensures { λ r. ⌜ state (r .layout) (r .next) (now (ids .exit)) (now (values .exit)) ≡ laid (kindsOf (now (records .entry))) (numbersIn (now (records .entry)) (now (guesses .entry))) (records-in (now (records .entry))) (state empty next (now (ids .entry)) (now (values .entry))) ⌝ }
 {
     let none = Laid {
         layout: Layout::new(),
         next,
     };
-    let points = push_stage(text, records, chains, NEW_POINT, none, ids, values);
-    let circles = push_stage(text, records, chains, NEW_CIRCLE, points, ids, values);
-    push_stage(text, records, chains, NEW_ARC, circles, ids, values)
+    let points = push_stage(records, guesses, NEW_POINT, none, ids, values);
+    let circles = push_stage(records, guesses, NEW_CIRCLE, points, ids, values);
+    push_stage(records, guesses, NEW_ARC, circles, ids, values)
 }
 
 // Fills the slots of a drawing, and hands back its layout.
 pub(crate) fn fill_slots(
-    text: &[u8],
     records: &[u8],
+    guesses: &[u16; 9000],
     next: u32,
     ids: &mut [u32],
     values: &mut [f64],
 ) -> Layout
-    requires { ⌜ length (drawn (now text) (now records)) ≤ mostRecords ⌝ }
-    ensures { λ r. ⌜ Slotted (laid (drawn (now (text .entry)) (now (records .entry))) (state empty next (now (ids .entry)) (now (values .entry)))) r (now (ids .exit)) (now (values .exit)) ⌝ }
+    requires { ⌜ records-in (now records) ≤ mostRecords ⌝ }
+    ensures { λ r. ⌜ Slotted (laid (kindsOf (now (records .entry))) (numbersIn (now (records .entry)) (now (guesses .entry))) (records-in (now (records .entry))) (state empty next (now (ids .entry)) (now (values .entry)))) r (now (ids .exit)) (now (values .exit)) ⌝ }
 {
-    let mut chains = [0u16; CHAINS];
-    chain(text, records, PAIR_GUESS, NUMBER_GUESS, &mut chains);
-    let last = lay(text, records, &chains, next, ids, values);
+    let last = lay(records, guesses, next, ids, values);
     last.layout
 }

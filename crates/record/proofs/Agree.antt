@@ -2,11 +2,11 @@
 use mathlib.Core.Path.{_≡_, refl, sym, ap, _∙_}
 use mathlib.Core.Bool.{Bool, true, false, not, _&&_, _||_}
 use mathlib.Core.List.{List, []}
-use Prim.Native.Nat.{ℕ, zero, suc, _+_, _-_, _≤_, _<_}
+use Prim.Native.Nat.{ℕ, zero, suc, _+_, _≤_, _<_}
 use native.Mathlib.Nat.{not-suc-le-zero}
 use native.Mathlib.Omega.{arith}
 use native.Mathlib.Decide.{decLt}
-use lib.Dec.{leb, ltb, eqb}
+use lib.Dec.{ltb, eqb}
 use lib.ListN.{length, List·getD-eq-default}
 use borrow.Author.Tests.{ltb-true}
 use Rattle.refusal.specs.First.{EachBelow, allBelow}
@@ -19,16 +19,11 @@ use Rattle.record.specs.Kinds.{Kind, kinds, kindAt, noKind, numberless, 
 use Rattle.record.specs.Record.{recordBytes, mark, firstGuess, labelPlaces, longestText}
 use Rattle.record.specs.Decode.{decode}
 use Rattle.record.specs.Entry.{Entry, noEntry, labelNo, named, entryOf, noView, viewOf}
-use Rattle.record.specs.Sound.{guessEnd, guessZeros, Placed, Framed, Known, Spelled, Sound, Good, spelledTest, placedTest, framedTest, fieldsTest, soundTest, goodTest}
+use Rattle.record.specs.Sound.{guessEnd, guessZeros, Placed, Framed, Known, Third, Spelled, Sound, Good, spelledTest, placedTest, framedTest, fieldsTest, soundTest, goodTest}
 use Rattle.record.proofs.Spelled.{says-spelled}
 use Rattle.ground.proofs.UpTo.{length-up-to, getD-up-to}
 
 -- ---- the bytes
-
--- a part that starts inside a text of n bytes ends there, by what is left of it
-pub inside-is : (start len n : ℕ) → start ≤ n → leb len (n - start) ≡ leb (start + len) n
-inside-is start len n h =
-    says-once (says-le len (n - start)) (says-iff (λ g. omega (arith, g, h)) (λ g. omega (arith, g, h)) (says-le (start + len) n))
 
 says-none : (v : View) → Says (eqb (v .start) 0 && eqb (v .len) 0) (v ≡ noView)
 says-none v =
@@ -37,7 +32,7 @@ says-none v =
     (λ e. (ap (λ (u : View). u .start) e, ap (λ (u : View). u .len) e))
     (says-and (says-eq (v .start) 0) (says-eq (v .len) 0))
 
-says-placed : (text : List ℕ) (r : Record) (q : ℕ) → Says (placedTest (viewOf r q) (ltb q (r .count)) (length text)) (Placed text r q)
+pub says-placed : (text : List ℕ) (r : Record) (q : ℕ) → Says (placedTest (viewOf r q) (ltb q (r .count)) (length text)) (Placed text r q)
 says-placed text r q =
     says-iff
     (λ w. record { used = w .0; unused = λ h. w .1 (λ g. omega (arith, h, g)) })
@@ -83,19 +78,26 @@ says-known k =
 
 -- ---- what the bytes say
 
+-- the fields as the kind allows, but for the labels' text
+pub says-allowed : (kind third count x y : ℕ)
+    → Says (fieldsTest (kindAt kind) third count x y)
+    (Known kind × (Third kind third × ((count ≡ kindAt kind .labels) × ((kindAt kind .number ≡ numberless → x ≡ 0) × ((kindAt kind .number ≡ pair → ⊥) → y ≡ 0)))))
+says-allowed kind third count x y =
+    let k = kindAt kind in
+    says-and (says-known kind)
+    (says-and (says-and (says-le third (k .thirds)) (says-if (says-lt 0 (k .thirds)) (says-lt 0 third)))
+    (says-and (says-eq count (k .labels))
+    (says-and (says-if (says-eq (k .number) numberless) (says-eq x 0)) (says-unless (says-eq (k .number) pair) (says-eq y 0)))))
+
 pub says-sound : (e : Entry) → Says (soundTest e) (Sound e)
 unfolding soundTest
 says-sound e =
-    let k = kindAt (e .kind) in
     says-iff
     (λ w. record { known = w .0 .0; third = w .0 .1 .0; count = w .0 .1 .1 .0; spelled = w .1; no-x = w .0 .1 .1 .1 .0; no-y = w .0 .1 .1 .1 .1 })
     (λ s. ((s .known, (s .third, (s .count, (s .no-x, s .no-y)))), s .spelled))
     (says-and
-    (says-and (says-known (e .kind))
-    (says-and (says-and (says-le (e .third) (k .thirds)) (says-if (says-lt 0 (k .thirds)) (says-lt 0 (e .third))))
-    (says-and (says-eq (length (e .labels)) (k .labels))
-    (says-and (says-if (says-eq (k .number) numberless) (says-eq (e .x) 0)) (says-unless (says-eq (k .number) pair) (says-eq (e .y) 0))))))
-    (says-all _ _ (λ q. says-spelled (labelNo e q) (k .dotted)) (length (e .labels))))
+    (says-allowed (e .kind) (e .third) (length (e .labels)) (e .x) (e .y))
+    (says-all _ _ (λ q. says-spelled (labelNo e q) (kindAt (e .kind) .dotted)) (length (e .labels))))
 
 pub says-good : (text b : List ℕ) → Says (goodTest text b) (Good text b)
 unfolding goodTest
@@ -113,11 +115,11 @@ none-unsound = refl
 -- ---- a sound entry by its record's fields
 
 module _ (text : List ℕ) (r : Record) (few : r .count ≤ labelPlaces) where
-  count-is : length (entryOf text r .labels) ≡ r .count
+  pub count-is : length (entryOf text r .labels) ≡ r .count
   unfolding entryOf
   count-is = length-up-to (r .count) (named text r)
 
-  label-is : (q : ℕ) → q < r .count → labelNo (entryOf text r) q ≡ named text r q
+  pub label-is : (q : ℕ) → q < r .count → labelNo (entryOf text r) q ≡ named text r q
   unfolding entryOf
   label-is q h = getD-up-to (r .count) (named text r) q [] h
 
@@ -131,7 +133,12 @@ module _ (text : List ℕ) (r : Record) (few : r .count ≤ labelPlaces) where
       (λ w q i h. sym (ap (spelledTest dotted) (label-is q h)) ∙ w q h)
       (says-all _ _ (λ q. says-if (says-lt q (r .count)) says-so) labelPlaces))
 
-  pub sound-is :
+  pub says-spelled-all : (dotted : Bool)
+      → Says (spelledAll text r dotted) (EachBelow (length (entryOf text r .labels)) (λ q. Spelled dotted (labelNo (entryOf text r) q)))
+  says-spelled-all dotted =
+      rw (count-is, ← spelled-is dotted) (says-all _ _ (λ q. says-spelled (labelNo (entryOf text r) q) dotted) (r .count))
+
+  sound-is :
       soundTest (entryOf text r)
       ≡ fieldsTest (kindAt (r .kind)) (r .third) (r .count) (r .x) (r .y) && spelledAll text r (kindAt (r .kind) .dotted)
   unfolding soundTest entryOf
@@ -142,14 +149,6 @@ module _ (text : List ℕ) (r : Record) (few : r .count ≤ labelPlaces) where
   sound-of f w =
       let all = says-all _ _ (λ q. says-if (says-lt q (r .count)) (says-spelled (named text r q) (kindAt (r .kind) .dotted))) labelPlaces in
       says-sound (entryOf text r) .so (sound-is ∙ rw (f, all .back w) refl)
-
--- a framed record is good exactly if its fields are as its kind allows and its labels are spelled as labels
-module _ (text b : List ℕ) (short : length text ≤ longestText) (f : Framed text b) (r : Record) (er : r ≡ decode b) where
-  pub says-fields : (fields labels : Bool) → fields ≡ fieldsTest (kindAt (r .kind)) (r .third) (r .count) (r .x) (r .y) → labels ≡ spelledAll text r (kindAt (r .kind) .dotted) → Says (fields && labels) (Good text b)
-  says-fields fields labels ef el =
-      let few : r .count ≤ labelPlaces = rw er (f .few) in
-      let e : fields && labels ≡ soundTest (entryOf text (decode b)) = rw (ef, el, ← er) (sym (sound-is text r few)) in
-      rw e (says-iff (λ s. record { short = short; framed = f; sound = s }) (λ g. g .sound) (says-sound (entryOf text (decode b))))
 
 -- ---- the kind of a good record
 

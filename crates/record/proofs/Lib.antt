@@ -7,7 +7,10 @@ pub mod Entries
 pub mod Passed
 pub mod Asked
 pub mod Told
+pub mod Parted
 pub mod WellFormed
+pub mod Laid
+pub mod Heads
 pub mod Cells
 pub mod Written
 pub mod Lent

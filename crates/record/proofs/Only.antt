@@ -22,6 +22,8 @@ use Rattle.record.proofs.decode.decode_record.Kinds as decode-record-ki
 use Rattle.record.proofs.decode.decode_record.Reads as decode-record
 use Rattle.record.proofs.formed.well_formed.Kinds as well-formed-kinds
 use Rattle.record.proofs.formed.well_formed.Reads as well-formed
+use Rattle.record.proofs.formed.laid_out.Kinds as laid-out-kinds
+use Rattle.record.proofs.formed.laid_out.Reads as laid-out
 use Rattle.record.proofs.ask.label.Kinds as label-kinds
 use Rattle.record.proofs.ask.label.Reads as label
 use Rattle.record.proofs.ask.angle_of.Kinds as angle-of-kinds
@@ -50,6 +52,9 @@ decode-record-only κs a x y e f p q = by-equation p q
 
 pub well-formed-only : Determined 2 well-formed-kinds.ps well-formed-kinds.r well-formed.Post
 well-formed-only κs a x y e f p q = by-equation p q
+
+pub laid-out-only : Determined 2 laid-out-kinds.ps laid-out-kinds.r laid-out.Post
+laid-out-only κs a x y e f p q = by-equation p q
 
 pub angle-of-only : Determined 2 angle-of-kinds.ps angle-of-kinds.r angle-of.Post
 angle-of-only κs a x y e f p q = by-equation p q

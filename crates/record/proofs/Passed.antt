@@ -1,9 +1,9 @@
--- The loop over the records of a list: no place passed is at fault, and it is known whether a guess was passed. Assumes nothing.
+-- A loop over the records of a list: no place passed is at fault, and it is known whether a guess was passed. Assumes nothing.
 use mathlib.Core.Path.{_≡_, refl, sym, ap, _∙_}
 use mathlib.Core.Logic.{⊎-elim}
 use mathlib.Core.Bool.{Bool, true, false, not, _||_, true≢false}
 use mathlib.Core.List.{List}
-use Prim.Native.Nat.{ℕ, suc, _+_, _%_, _≤_, _<_}
+use Prim.Native.Nat.{ℕ, _+_, _%_, _≤_, _<_}
 use native.Mathlib.Nat.{not-suc-le-zero}
 use native.Mathlib.Omega.{arith}
 use native.Mathlib.Numerals.{add-one}
@@ -11,7 +11,7 @@ use lib.Dec.{eqb}
 use lib.ListN.{length}
 use borrow.Author.Count.{below-more}
 use borrow.Author.Tests.{eqb-true, eqb-false}
-use Rattle.refusal.specs.First.{EachBelow}
+use Rattle.refusal.specs.First.{EachBelow, anyBelow}
 use Rattle.refusal.proofs.Says.{stable, below-suc}
 use Rattle.record.specs.declared.formed.Formed.the-variants as formed
 use Rattle.record.specs.Steps.{goodKind, misplaced}
@@ -23,20 +23,30 @@ use Rattle.record.specs.Formed.{malformedAt, entries, anyGuess, faultTes
 use Rattle.record.proofs.Agree.{says-good, none-unsound, kind-of-bad}
 use Rattle.record.proofs.Entries.{entry-kind, misplaced-is, told-at, none-told, inside-is, last-is, entry-at, whole-length, piece-length, none-behind, count-le}
 
--- what holds before place i
-pub record Passed (es : List Entry) (i : ℕ) (guessed : Bool) : Type 0 where
-  pub each : EachBelow i (λ j. malformedTest es j ≡ false)
-  pub seen : guessed ≡ anyGuess es i
+-- what holds before place i, by a test of each place and whether a guess stands there
+pub record Passed (fault guess : ℕ → Bool) (i : ℕ) (guessed : Bool) : Type 0 where
+  pub each : EachBelow i (λ j. fault j ≡ false)
+  pub seen : guessed ≡ anyBelow i guess
 
-pub start : (es : List Entry) → Passed es 0 false
-start es = record { each = λ j h. absurd (not-suc-le-zero h); seen = refl }
+module _ (fault guess : ℕ → Bool) where
+  pub start : Passed fault guess 0 false
+  start = record { each = λ j h. absurd (not-suc-le-zero h); seen = refl }
+
+  pub next : (i : ℕ) (guessed this : Bool) → Passed fault guess i guessed → fault i ≡ false → guess i ≡ this → Passed fault guess (i + 1) (guessed || this)
+  next i guessed this p f g = record { each = below-more _ _ (p .each) f; seen = rw (add-one, g, p .seen) refl }
+
+-- ---- the entries of a list
+
+-- what holds before entry i
+abbrev pub PassedIn : List Entry → ℕ → Bool → Type 0
+PassedIn es = Passed (malformedTest es) (λ j. isGuess (entryAt es j .kind))
 
 -- a kind that is not 0 is a good record's
 good-of : (text b : List ℕ) (i : ℕ) (guessed : Bool) → misplaced (goodKind text b) i guessed ≡ false → Good text b
 good-of text b i guessed e =
     stable (says-good text b) (λ f. true≢false (sym (ap (λ (k : ℕ). misplaced k i guessed) (sym (kind-of-bad text b f))) ∙ e))
 
-module _ (text bs : List ℕ) (short : length text ≤ longestText) (few : countOf bs ≤ mostRecords) (i : ℕ) (guessed : Bool) (p : Passed (entries text bs) i guessed) where
+module _ (text bs : List ℕ) (short : length text ≤ longestText) (few : countOf bs ≤ mostRecords) (i : ℕ) (guessed : Bool) (p : PassedIn (entries text bs) i guessed) where
   module _ (h : i < countOf bs) (kind : ℕ) (k : kind ≡ goodKind text (recordOf bs i)) where
     -- the test of the place is that of the kind
     here-is : malformedTest (entries text bs) i ≡ misplaced kind i guessed
@@ -49,11 +59,11 @@ module _ (text bs : List ℕ) (short : length text ≤ longestText) (few : count
     pub fault : misplaced kind i guessed ≡ true → formed.Refused (malformedAt i) ≡ formedOf (entries text bs)
     fault e = told-at (entries text bs) i (omega (arith, count-le text bs short few, h)) (here-is ∙ e) (p .each)
 
-    pub more : misplaced kind i guessed ≡ false → Passed (entries text bs) (i + 1) (guessed || isGuess kind)
+    pub more : misplaced kind i guessed ≡ false → PassedIn (entries text bs) (i + 1) (guessed || isGuess kind)
     more e =
         let g : Good text (recordOf bs i) = good-of text (recordOf bs i) i guessed (rw k at e) in
         let n : entryAt (entries text bs) i .kind ≡ kind = ap (λ (e : Entry). e .kind) (entry-at text bs short few i h) ∙ entry-kind text (recordOf bs i) g ∙ sym k in
-        record { each = below-more _ _ (p .each) (here-is ∙ e); seen = rw (add-one, n, p .seen) refl }
+        next _ _ i guessed (isGuess kind) p (here-is ∙ e) (ap isGuess n)
 
   -- behind the last record: a piece of a record, or a guess that is due
   module _ (n : i ≡ countOf bs) where

@@ -1,25 +1,23 @@
--- A list passes exactly if it is well formed in docs/FORMAT.md's words: a list that is at fault nowhere has good records, and its
--- lowest guess parts the instructions from the guesses. Assumes nothing.
-use mathlib.Core.Path.{_≡_, refl, sym, ap, _∙_, subst}
-use mathlib.Core.Logic.{_↔_, ⊎-elim}
+-- A list passes exactly if it is well formed in docs/FORMAT.md's words: a list that is at fault nowhere has good records, and no
+-- kind of them is out of its place. Assumes nothing.
+use mathlib.Core.Path.{_≡_, refl, sym, ap, _∙_}
+use mathlib.Core.Logic.{inl, inr, _↔_, ⊎-elim}
 use mathlib.Core.List.{List}
 use Prim.Native.Nat.{ℕ, _%_, _≤_, _<_}
-use native.Mathlib.Nat.{eq-or-lt-of-le}
 use native.Mathlib.Omega.{arith}
-use native.Mathlib.Decide.{decLt}
 use lib.ListN.{length}
-use Rattle.refusal.specs.First.{EachBelow, Lowest, Nowhere}
-use Rattle.refusal.proofs.Says.{fails, stable, says-and, says-eq, says-le, says-lt, says-any}
-use Rattle.refusal.proofs.Search.{lowest-of}
+use Rattle.refusal.specs.First.{EachBelow, Nowhere}
+use Rattle.refusal.proofs.Says.{fails, stable, says-and, says-eq, says-le, says-any}
 use Rattle.record.specs.declared.formed.Formed.the-variants as formed
 use Rattle.record.specs.Record.{recordBytes, mostRecords, longestText}
 use Rattle.record.specs.Decode.{decode, countOf, recordOf}
 use Rattle.record.specs.Entry.{Entry, noEntry, entryAt}
 use Rattle.record.specs.Sound.{Sound, Good}
-use Rattle.record.specs.Formed.{GuessOf, Parted, WellFormed, entry, entries, GuessEntry, Malformed, unsound, guess-first, after-guess, no-guess, places, formedOf}
+use Rattle.record.specs.Formed.{Parted, WellFormed, entry, entries, Malformed, unsound, guess-first, after-guess, no-guess, places, formedOf}
 use Rattle.record.proofs.Agree.{says-sound, says-good, none-unsound, kind-of-good}
 use Rattle.record.proofs.Entries.{over, entry-kind, entry-sound, entry-at, whole-length, piece-length, none-behind}
 use Rattle.record.proofs.Told.{says-guess, passed-iff}
+use Rattle.record.proofs.Parted.{parted, in-place, guess-in}
 
 module _ (text bs : List ℕ) where
   -- ---- entries and records
@@ -64,30 +62,14 @@ module _ (text bs : List ℕ) where
         stable (says-good text (recordOf bs i))
         (λ f. never i (omega (arith, h, all-whole)) (unsound (omega (arith, h, all-whole)) (λ s. f (sound-good (limits .0) (limits .1) i h s))))
 
-    -- the first guess
-    first-guess : (k : ℕ) × Lowest (λ i. GuessEntry (entryAt (entries text bs) i)) (length (entries text bs)) k
-    first-guess =
-        lowest-of _ _ (says-guess (entries text bs)) (length (entries text bs))
-        (stable (says-any _ _ (says-guess (entries text bs)) (length (entries text bs))) (λ f. never (length (entries text bs)) (omega arith) (no-guess refl f)))
-
     is-parted : Parted bs
     is-parted =
-        let k = first-guess .0 in
-        let l = first-guess .1 in
-        let n = all-whole in
-        record {
-          guesses = k;
-          some-instruction = stable (says-lt 0 k) (λ f. never k (omega (arith, l .inside)) (guess-first (l .inside) (omega (arith, f)) (l .here)));
-          some-guess = omega (arith, l .inside, n);
-          before = λ i h g.
-              let b : i < countOf bs = omega (arith, h, l .inside, n) in
-              l .below i h (rw (kind-at (limits .0) (limits .1) i b (each-good i b)) g);
-          behind = λ i h b.
-              rw (kind-at (limits .0) (limits .1) i b (each-good i b)) at
-              (⊎-elim (λ q. subst (λ (j : ℕ). GuessEntry (entryAt (entries text bs) j)) q (l .here))
-              (λ m. stable (says-guess (entries text bs) i) (λ f. never i (omega (arith, b, n)) (after-guess (omega (arith, b, n)) f (k, m, l .here))))
-              (eq-or-lt-of-le h));
-        }
+        parted bs (λ i. entryAt (entries text bs) i .kind) (λ i h. kind-at (limits .0) (limits .1) i h (each-good i h))
+        (λ i h.
+        let b : i < length (entries text bs) = omega (arith, h, all-whole) in
+        ⊎-elim (λ w. never i (omega (arith, b)) (guess-first b (w .0) (w .1))) (λ w. never i (omega (arith, b)) (after-guess b (w .0) (w .1))))
+        (rw all-whole at
+        (stable (says-any _ _ (says-guess (entries text bs)) (length (entries text bs))) (λ f. never (length (entries text bs)) (omega arith) (no-guess refl f))))
 
     well-formed : WellFormed text bs
     well-formed = record { short = limits .0; few = limits .1; whole = is-whole; each = each-good; parted = is-parted }
@@ -101,24 +83,16 @@ module _ (text bs : List ℕ) where
         n : length (entries text bs) ≡ countOf bs
         n = whole-length text bs (w .short) (w .few) (w .whole)
 
-        inside : (j : ℕ) → j < countOf bs → GuessEntry (entryAt (entries text bs) j) → GuessOf bs j
-        inside j h g = rw (kind-at (w .short) (w .few) j h (w .each j h)) at g
-
-        outside : (j : ℕ) → w .parted .guesses ≤ j → j < countOf bs → GuessEntry (entryAt (entries text bs) j)
-        outside j h b = rw (kind-at (w .short) (w .few) j b (w .each j b)) (w .parted .behind j h b)
+        kinds : EachBelow (countOf bs) (λ j. entryAt (entries text bs) j .kind ≡ decode (recordOf bs j) .kind)
+        kinds j h = kind-at (w .short) (w .few) j h (w .each j h)
 
         go : Malformed (entries text bs) i → ⊥
         go (unsound h f) =
             let b : i < countOf bs = omega (arith, h, n) in
             f (good-sound (w .short) (w .few) i b (w .each i b))
-        go (guess-first h z g) = w .parted .before i (omega (arith, z, w .parted .some-instruction)) (inside i (omega (arith, h, n)) g)
-        go (after-guess h f (j, k, g)) =
-            elim (decLt j (w .parted .guesses)) [
-              | yes b ↦ w .parted .before j b (inside j (omega (arith, h, k, n)) g)
-              | no b ↦ f (outside i (omega (arith, b, k)) (omega (arith, h, n)))
-            ]
-        go (no-guess e f) =
-            f (w .parted .guesses, omega (arith, e, n, w .parted .some-guess), outside (w .parted .guesses) (omega arith) (w .parted .some-guess))
+        go (guess-first h z g) = in-place bs _ kinds (w .parted) i (omega (arith, h, n)) (inl (z, g))
+        go (after-guess h f s) = in-place bs _ kinds (w .parted) i (omega (arith, h, n)) (inr (f, s))
+        go (no-guess e f) = f (rw (e, n) (guess-in bs _ kinds (w .parted)))
 
   -- a list passes exactly if it is well formed
   pub well-formed-iff : (formedOf (entries text bs) ≡ formed.WellFormed) ↔ WellFormed text bs

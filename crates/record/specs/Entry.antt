@@ -1,7 +1,7 @@
 -- A record with its labels as their text, which is what a drawing is said in: check and lowering are stated over a list of entries.
 use mathlib.Core.Path.{_≡_}
-use mathlib.Core.List.{List, [], _∷_}
-use Prim.Native.Nat.{ℕ, zero, suc, _+_}
+use mathlib.Core.List.{List, []}
+use Prim.Native.Nat.{ℕ, _+_}
 use lib.ListN.{getD, take, drop}
 use Rattle.ground.specs.Lists.{upTo}
 use Rattle.record.specs.declared.View.{View}

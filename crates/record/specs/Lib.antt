@@ -6,3 +6,4 @@ pub mod Sound
 pub mod Formed
 pub mod Ask
 pub mod Steps
+pub mod Laid

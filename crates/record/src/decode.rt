@@ -15,7 +15,7 @@ use bytes::u16_of;
 use bytes::u64_of;
 
 // The view that is written in the four bytes from k on.
-fn view_at(b: &[u8], k: usize) -> View
+pub(crate) fn view_at(b: &[u8], k: usize) -> View
     requires { ⌜ k + 3 < length (now b) ⌝ }
     ensures { λ r. ⌜ r ≡ viewAt (now (b .entry)) k ⌝ }
 {
@@ -27,7 +27,7 @@ fn view_at(b: &[u8], k: usize) -> View
 }
 
 // The number of the eight bytes from k on.
-fn u64_at(b: &[u8], k: usize) -> u64
+pub(crate) fn u64_at(b: &[u8], k: usize) -> u64
     requires { ⌜ k + 7 < length (now b) ⌝ }
     ensures { λ r. ⌜ r ≡ u64 (now (b .entry)) k ⌝ }
 {

@@ -2,6 +2,7 @@
 ghost use mathlib.Core.Path.{_≡_};
 ghost use Rattle.record.specs.Formed.{malformedAt, entries, formedOf};
 ghost use Rattle.record.specs.Steps.{misplaced};
+ghost use Rattle.record.specs.Laid.{laidOut};
 use super::LONGEST;
 use super::MOST;
 use super::SIZE;
@@ -65,4 +66,31 @@ pub fn well_formed(text: &[u8], records: &[u8]) -> Formed
         return Formed::Refused(malformed_at(n));
     }
     Formed::WellFormed
+}
+
+// Whether a list of records is well formed but, perhaps, for the spelling of labels that no declaration has.
+pub fn laid_out(text: &[u8], records: &[u8]) -> bool
+    ensures { λ r. ⌜ r ≡ laidOut (now (text .entry)) (now (records .entry)) ⌝ }
+{
+    if LONGEST < text.len() {
+        return false;
+    }
+    let n = records.len() / SIZE;
+    if MOST < n {
+        return false;
+    }
+    let kinds = KINDS;
+    let mut guessed = false;
+    let mut i = 0;
+    while i < n {
+        let at = i * SIZE;
+        let end = at + SIZE;
+        let kind = sound::laid_kind(&kinds, text, &records[at..end]);
+        if at_fault(kind, i, guessed) {
+            return false;
+        }
+        guessed = guessed | (PAIR_GUESS <= kind);
+        i += 1;
+    }
+    (records.len() % SIZE == 0) & guessed
 }

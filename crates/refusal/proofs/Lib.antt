@@ -3,3 +3,5 @@ pub mod Search
 pub mod Right
 pub mod Told
 pub mod Once
+pub mod Alike
+pub mod ByPlaces

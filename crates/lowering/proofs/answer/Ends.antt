@@ -21,8 +21,8 @@ use Rattle.record.specs.Formed.{WellFormed, entries}
 use Rattle.record.proofs.Entries.{whole-length}
 use Rattle.record.proofs.Told.{passed-iff}
 use Rattle.record.proofs.WellFormed.{well-formed-iff}
-use Rattle.index.specs.Labels.{drawn, kindNo}
-use Rattle.index.proofs.Drawn.{entries-drawn}
+use Rattle.names.specs.Labels.{drawn, kindNo}
+use Rattle.names.proofs.Drawn.{entries-drawn}
 use Rattle.drawing.specs.declared.Checked.{Checked}
 use Rattle.drawing.specs.declared.Checked.the-variants as checked
 use Rattle.drawing.specs.Needs.{Shape, point, circle, arc, declaring}
@@ -95,10 +95,10 @@ lack-ends es room k c told some = go (lacking es room few-ids) (lacking es room 
 -- ---- the check passes
 
 module _ (text bs : List ℕ) {P C A R : ℕ} {answer : Checked} (told : answer ≡ checkedOf (entries text bs)) (is : answer ≡ checked.Passed P C A R) where
-  counted : PassedWith (entries text bs) P C A R
+  pub counted : PassedWith (entries text bs) P C A R
   counted = passed-with (entries text bs) P C A R (sym told ∙ is)
 
-  well-formed : WellFormed text bs
+  pub well-formed : WellFormed text bs
   well-formed =
       well-formed-iff text bs .0
       (passed-iff (entries text bs) .1 (λ i h. check-passes (entries text bs) .0 (counted .none-found) malformed i h))

@@ -1,54 +1,91 @@
--- The tables that the code makes hold what they should, and slots and rows together are a drawing that is filled. Assumes nothing.
-use mathlib.Core.Path.{_≡_, sym, _∙_, ap}
+-- What the code leaves, said of the drawing: of records that are laid right, with their names and their guesses, slots and rows are those of a drawing
+-- that is filled. Assumes nothing.
+use mathlib.Core.Path.{_≡_, refl, sym, _∙_}
 use mathlib.Core.List.{List}
-use Prim.Native.Nat.{ℕ, _+_, _≤_}
+use Prim.Native.Nat.{ℕ, _+_, _*_, _<_}
+use native.Mathlib.Omega.{arith}
 use lib.ListN.{length, getD}
 use lib.Ieee.{Float}
-use Rattle.refusal.specs.First.{EachBelow}
+use Rattle.ground.proofs.UpTo.{getD-up-to}
 use Rattle.layout.specs.declared.Layout.{Layout}
 use Rattle.layout.specs.Slots.{empty}
 use Rattle.layout.specs.Push.{state, onward}
-use Rattle.record.specs.Kinds.{newPoint, newArc}
-use Rattle.record.specs.Decode.{countOf, decodeAt}
-use Rattle.record.specs.Entry.{Entry}
-use Rattle.index.specs.Labels.{drawn, kindNo}
-use Rattle.index.specs.Chains.{Chained}
-use Rattle.index.proofs.Drawn.{drawn-length, drawn-kind}
-use Rattle.drawing.specs.Check.{countBelow}
-use Rattle.drawing.proofs.Laws.{count-kinds}
-use Rattle.lowering.specs.Slots.{slots, layoutOf, valuesOf}
+use Rattle.record.specs.Decode.{countOf}
+use Rattle.record.specs.Entry.{Entry, entryOf}
+use Rattle.record.specs.Laid.{LaidOut}
+use Rattle.names.specs.Labels.{drawn, kindNo}
+use Rattle.names.specs.Cut.{knownParts}
+use Rattle.names.specs.Names.{namesOf, guessPlaces, guessIn, guessesOf}
+use Rattle.names.proofs.Drawn.{drawn-length, drawn-at, drawn-kind}
+use Rattle.drawing.specs.Needs.{point, circle}
+use Rattle.lowering.specs.Slots.{slots, howMany, layoutOf, valuesOf}
 use Rattle.lowering.specs.Lower.{onto}
-use Rattle.lowering.specs.Steps.{laid, rowsBy, RowTables, Writable, Slotted, Passing, Filled}
+use Rattle.lowering.specs.Sketch.{sketch, manyOf}
+use Rattle.lowering.specs.Steps.{kindsOf, sketchIn, numbersIn, laid, Counted, Writable, Slotted, FilledBy, Passing, Filled}
+use Rattle.lowering.proofs.drawing.Counts.{length-slots}
+use Rattle.lowering.proofs.drawing.Fine.{fine}
+use Rattle.lowering.proofs.slots.Guesses.{numbersOf, values-in}
 use Rattle.lowering.proofs.slots.Pushes.{laid-is}
-use Rattle.lowering.proofs.rows.Tied.{writable, rows-are}
+use Rattle.lowering.proofs.rows.Bytes.{length-rows}
+use Rattle.lowering.proofs.rows.Tied.{sayable}
+use Rattle.lowering.proofs.rows.Lines.{sketch-in}
+use Rattle.lowering.proofs.Sketched.{length-sketch, line-at, first-are, sketched}
 
--- ---- tables
+-- ---- rows
 
-pub tables-are : (text records chains numbers : List ℕ) → Chained (drawn text records) newPoint newArc chains → length (drawn text records) ≤ length numbers
-    → EachBelow (countOf records) (λ i. getD numbers i 0 ≡ countBelow (λ j. decodeAt records j .kind) (decodeAt records i .kind) (decodeAt records i .kind) i)
-    → RowTables (drawn text records) chains numbers
-tables-are text records chains numbers c long each = record {
-  chained = c;
-  long = long;
-  numbered = λ i h.
-      each i (rw (drawn-length text records) at h)
-      ∙ rw (drawn-kind text records i) (sym (count-kinds (kindNo (drawn text records)) (λ j. decodeAt records j .kind) _ _ i (drawn-kind text records)));
+-- the rows of a drawing that passes can be written
+writable : (es : List Entry) (next : ℕ) (ids : List ℕ) (values : List Float) (rows : List ℕ) → Passing es next ids values rows → Writable (sketch es) next rows
+writable es next ids values rows p = record {
+  each = λ i b.
+      let h : i < length es = rw (length-sketch es) at b in
+      rw (line-at es i, first-are es) (λ u. sayable es (fine es (p .passes)) next i h u (p .few) (p .enough .ids-left));
+  room = rw (← sketched es (p .passes) .rows next, length-rows es next) (p .enough .rows-lent);
 }
 
--- ---- slots, then rows
+-- ---- slots
 
-module _ (es : List Entry) (next : ℕ) (ids : List ℕ) (values : List Float) (rows : List ℕ) (p : Passing es next ids values rows)
-    (l : Layout) (ids′ : List ℕ) (values′ : List Float) (s : Slotted (laid es (state empty next ids values)) l ids′ values′) where
-  filled : Slotted (state (layoutOf es) (next + length (slots es)) (onto ids (onward next (length (slots es)))) (onto values (valuesOf es))) l ids′ values′
-  filled = rw (laid-is es next ids values rows p) at s
+module _ (text records names guesses : List ℕ) (lay : LaidOut text records) (names-are : names ≡ namesOf (drawn text records)) (guesses-are : guesses ≡ guessesOf (drawn text records)) where
+  abbrev es : List Entry
+  es = drawn text records
 
-  pub then-writable : Writable es l ids′ rows
-  then-writable = rw (filled .layout-is, filled .ids-are) (writable es next ids values rows p)
+  kinds-are : kindsOf records ≡ kindNo (drawn text records)
+  kinds-are j i = sym (drawn-kind text records i) j
 
-  pub then-filled : (rows′ : List ℕ) → rows′ ≡ onto rows (rowsBy es l ids′) → Filled es next ids values rows l ids′ values′ rows′
-  then-filled rows′ e = record {
-    layout-is = filled .layout-is;
-    ids-are = filled .ids-are;
-    values-are = filled .values-are;
-    rows-are = e ∙ rw (filled .layout-is, filled .ids-are) (ap (onto rows) (rows-are es next ids values rows p));
-  }
+  -- the numbers of a guess, by the table
+  numbers-are : (d part : ℕ) → d < length es → part < knownParts → numbersIn records guesses d part ≡ numbersOf es d part
+  unfolding guessesOf entryOf
+  numbers-are d part h b =
+      let k = d * knownParts + part in
+      let at : getD guesses k 0 ≡ guessIn es k = rw guesses-are (getD-up-to guessPlaces (guessIn es) k 0 (omega (arith, h, b, lay .few, drawn-length text records))) in
+      rw (at, drawn-at text records (guessIn es k)) refl
+
+  module _ (next : ℕ) (ids : List ℕ) (values : List Float) (rows : List ℕ) (p : Passing (drawn text records) next ids values rows) where
+    -- what the code asks
+    pub countable : (P C : ℕ) → P ≡ howMany point (drawn text records) → C ≡ howMany circle (drawn text records) → Counted records P C × Writable (sketchIn records names) next rows
+    countable P C eP eC = (
+      record { few = lay .few; points-are = eP ∙ same 1; circles-are = eC ∙ same 2 },
+      rw (sketch-in text records names lay names-are) (writable es next ids values rows p),
+    )
+      where
+        same : (kind : ℕ) → manyOf (kindNo es) kind (length es) ≡ manyOf (kindsOf records) kind (countOf records)
+        same kind j = manyOf (sym kinds-are j) kind (drawn-length text records j)
+
+    laid-as : laid (kindsOf records) (numbersIn records guesses) (countOf records) (state empty next ids values)
+        ≡ state (layoutOf es) (next + length (slots es)) (onto ids (onward next (length (slots es)))) (onto values (valuesOf es))
+    laid-as =
+        let n = length-slots es in
+        (λ j. laid (kinds-are j) (numbersIn records guesses) (sym (drawn-length text records) j) (state empty next ids values))
+        ∙ laid-is (kindNo es) (numbersIn records guesses) (length es) next ids values (omega (arith, p .few)) (omega (arith, n, p .enough .ids-lent)) (omega (arith, n, p .enough .values-lent)) (omega (arith, n, p .enough .ids-left))
+        ∙ rw (n, values-in es (fine es (p .passes)) (numbersIn records guesses) numbers-are) refl
+
+    -- and what it gives
+    pub then-filled : (l : Layout) (ids′ : List ℕ) (values′ : List Float) (rows′ : List ℕ) → FilledBy records names guesses next ids values rows l ids′ values′ rows′
+        → Filled (drawn text records) next ids values rows l ids′ values′ rows′
+    then-filled l ids′ values′ rows′ f =
+        let s : Slotted (state (layoutOf es) (next + length (slots es)) (onto ids (onward next (length (slots es)))) (onto values (valuesOf es))) l ids′ values′ = rw laid-as at (f .slotted) in
+        record {
+          layout-is = s .layout-is;
+          ids-are = s .ids-are;
+          values-are = s .values-are;
+          rows-are = f .rows-are ∙ rw (sketch-in text records names lay names-are, sketched es (p .passes) .rows next) refl;
+        }

@@ -1,10 +1,12 @@
 -- The counts of a drawing are the lengths of the lists that its records are picked into: each record adds to both alike. Assumes nothing.
 use mathlib.Core.Path.{_≡_, refl, sym, ap, _∙_}
 use mathlib.Core.Bool.{Bool, true, false, cond}
-use mathlib.Core.List.{List, [], _∷_, map}
+use mathlib.Core.List.{List, [], _∷_, _++_, map, map-append}
 use Prim.Native.Nat.{ℕ, zero, suc, _+_, _*_, _≤_, _<_}
 use native.Mathlib.Nat.{le-refl, add-zero}
 use native.Mathlib.Omega.{arith}
+use lib.Dec.{eqb}
+use borrow.Author.Tests.{eqb-true}
 use lib.ListN.{length, getD, take, drop, length-append}
 use lib.Seq.{take-length}
 use Rattle.ground.specs.Lists.{upTo}
@@ -15,7 +17,7 @@ use Rattle.layout.specs.Refusals.{impossible}
 use Rattle.record.specs.Kinds.{firstRule, lastRule}
 use Rattle.record.specs.Entry.{Label, Entry, noEntry, entryAt, labelNo}
 use Rattle.ground.proofs.UpTo.{getD-up-to}
-use Rattle.index.specs.Labels.{kindNo, within}
+use Rattle.names.specs.Labels.{kindNo, nameNo, within}
 use Rattle.drawing.specs.Needs.{Shape, point, circle, arc, declaring}
 use Rattle.drawing.specs.declared.Checked.the-variants as checked
 use Rattle.refusal.specs.First.{Answer, passed, refused}
@@ -25,9 +27,10 @@ use Rattle.drawing.specs.Check.{countBelow, answer, checkOf, checkedOf}
 use Rattle.lowering.specs.Slots.{Slot, slotsOfShape, labelsOf, slotsOf, slots, size, before, howMany, layoutOf}
 use Rattle.lowering.specs.Rows.{rulesOf}
 use Rattle.lowering.specs.Demand.{noSlot, Declares, rulesBefore}
-use Rattle.index.proofs.Laws.{within-one}
+use Rattle.lowering.specs.Sketch.{manyOf, ofKind}
+use Rattle.names.proofs.Laws.{within-one}
 use Rattle.ground.proofs.Lists.{either-le}
-use Rattle.ground.proofs.Pieces.{getD-map, each-of, length-flat, Picks, picks-suc, picks-around}
+use Rattle.ground.proofs.Pieces.{Each, each-append, getD-map, each-of, length-flat, Picks, picks-suc, picks-around}
 
 -- ---- what is picked
 
@@ -73,10 +76,50 @@ unfolding countBelow
 count-le kinds low high zero = omega arith
 count-le kinds low high (suc n) = omega (arith, count-le kinds low high n, either-le (within low high (kinds n)) 1 0 1 (omega arith) (omega arith))
 
+-- ---- those of a kind, by their numbers
+
+module _ (kinds : ℕ → ℕ) (kind : ℕ) where
+  pub count-of-kind : (n : ℕ) → length (ofKind kinds kind n) ≡ manyOf kinds kind n
+  unfolding ofKind countBelow
+  count-of-kind zero = refl
+  count-of-kind (suc n) = rw (length-append, count-of-kind n, within-one kind (kinds n)) (go (eqb (kinds n) kind))
+    where
+      go : (b : Bool) → manyOf kinds kind n + length (cond b (n ∷ []) []) ≡ manyOf kinds kind n + cond b 1 0
+      go true = refl
+      go false = refl
+
+  pub each-of-kind : (m n : ℕ) → n ≤ m → Each (λ d. (d < m) × (kinds d ≡ kind)) (ofKind kinds kind n)
+  unfolding ofKind
+  each-of-kind m zero h = tt
+  each-of-kind m (suc n) h = each-append _ (ofKind kinds kind n) _ (each-of-kind m n (omega (arith, h))) (go (eqb (kinds n) kind) refl)
+    where
+      go : (b : Bool) → eqb (kinds n) kind ≡ b → Each (λ d. (d < m) × (kinds d ≡ kind)) (cond b (n ∷ []) [])
+      go true e = ((h, eqb-true (kinds n) kind e), tt)
+      go false e = tt
+
+-- the labels of the declared shapes of a kind are theirs
+module _ (es : List Entry) (s : Shape) where
+  labels-to : (n : ℕ) → n ≤ length es → labelsOf s (take n es) ≡ map (nameNo es) (ofKind (kindNo es) (declaring s) n)
+  unfolding ofKind
+  labels-to zero h = refl
+  labels-to (suc n) h =
+      picks-suc _ _ _ (labels-pick s) es n noEntry h
+      ∙ rw (labels-to n (omega (arith, h)), within-one (declaring s) (kindNo es n), map-append) (go (eqb (kindNo es n) (declaring s)))
+    where
+      before-n : List Label
+      before-n = map (nameNo es) (ofKind (kindNo es) (declaring s) n)
+
+      go : (b : Bool) → before-n ++ cond b (nameNo es n ∷ []) [] ≡ before-n ++ map (nameNo es) (cond b (n ∷ []) [])
+      go true = refl
+      go false = refl
+
+  pub labels-of : labelsOf s es ≡ map (nameNo es) (ofKind (kindNo es) (declaring s) (length es))
+  labels-of = ap (labelsOf s) (sym (take-length es)) ∙ labels-to (length es) (le-refl (length es))
+
 -- ---- shapes and rules
 
 module _ (es : List Entry) where
-  pub labels-all : (s : Shape) → length (labelsOf s es) ≡ howMany s es
+  labels-all : (s : Shape) → length (labelsOf s es) ≡ howMany s es
   labels-all s = picks-all _ _ _ _ (labels-pick s) es
 
   pub rules-all : length (rulesOf es) ≡ rulesBefore es (length es)

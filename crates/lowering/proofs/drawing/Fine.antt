@@ -1,12 +1,14 @@
 -- What a drawing that the check passes is like: each fault that holds nowhere is a fact of it. Assumes nothing.
 use mathlib.Core.Path.{_≡_, refl, sym, ap, _∙_}
-use mathlib.Core.Logic.{_⊎_, inl, inr}
+use mathlib.Core.Logic.{inl, inr}
 use mathlib.Core.Bool.{true, true≢false}
-use mathlib.Core.List.{List, [], _∷_, _++_, nil≢cons, head-eq-of-cons-eq, tail-eq-of-cons-eq}
-use Prim.Native.Nat.{ℕ, suc, _<_, suc-le-suc}
+use mathlib.Core.List.{List, [], _∷_, _++_}
+use Prim.Native.Nat.{ℕ, zero, suc, _<_, suc-le-suc}
 use native.Mathlib.Nat.{zero-lt-suc}
 use native.Mathlib.Omega.{arith}
 use lib.ListN.{length, getD}
+use borrow.Author.Tests.{ne-eqb}
+use Rattle.ground.specs.Words.{bytes}
 use Rattle.refusal.specs.First.{passed, EachBelow, SomeBelow}
 use Rattle.refusal.proofs.Says.{stable}
 use Rattle.text.specs.Text.{isAlphanum}
@@ -15,14 +17,18 @@ use Rattle.record.specs.Entry.{Label, Entry, entryAt, labelNo}
 use Rattle.record.specs.Sound.{Sound, Plain}
 use Rattle.record.specs.Formed.{unsound}
 use Rattle.record.proofs.Agree.{says-sound}
-use Rattle.index.specs.Labels.{kindNo, nameNo}
+use Rattle.names.specs.Labels.{kindNo, nameNo}
+use Rattle.names.specs.Cut.{dot, Pointless, partNo, KnownPart}
+use Rattle.names.specs.Names.{nameFor, recordBy, Clear}
+use Rattle.names.proofs.Cut.{part-small}
+use Rattle.names.proofs.Names.{unpacked, name-of}
 use Rattle.drawing.specs.Needs.{Shape, point, circle, arc, declaring, Part, parts, needAt}
 use Rattle.drawing.specs.Faults as faults
 use faults.{Meets, Guessed, AnyUnguessed, malformed, declared-twice, wrong-label, guessed-twice, without-guess}
 use Rattle.drawing.specs.Check.{checkOf}
 use Rattle.drawing.proofs.Agree.{says-meets, says-guessed, check-passes}
 use Rattle.lowering.specs.Demand.{Declares}
-use Rattle.lowering.specs.Steps.{shapeOf}
+use Rattle.lowering.specs.Sketch.{byKind, kindBy}
 use Rattle.ground.proofs.Pieces.{Each}
 
 -- records are sound; a label is declared once, and a part guessed once; each rule's labels are what they need to be; each part is guessed
@@ -58,6 +64,10 @@ fine es e =
 
 -- ---- the kinds that declare
 
+-- the shape that a kind declares
+abbrev pub shapeOf : ℕ → Shape
+shapeOf kind = byKind kind point circle arc
+
 pub shape-back : (s : Shape) → shapeOf (declaring s) ≡ s
 shape-back point = refl
 shape-back circle = refl
@@ -68,24 +78,25 @@ declaration point k e = (omega arith, omega arith)
 declaration circle k e = (omega arith, omega arith)
 declaration arc k e = (omega arith, omega arith)
 
+pub shape-of : (k : ℕ) → Declaration k → (s : Shape) × (k ≡ declaring s)
+shape-of zero d = absurd (omega (arith, d .0))
+shape-of (suc zero) d = (point, refl)
+shape-of (suc (suc zero)) d = (circle, refl)
+shape-of (suc (suc (suc zero))) d = (arc, refl)
+shape-of (suc (suc (suc (suc k)))) d = absurd (omega (arith, d .1))
+
 -- a label is declared by one record
 pub same-record : (es : List Entry) → Fine es → (i i′ : ℕ) (s s′ : Shape) → Declares es i s → Declares es i′ s′ → nameNo es i ≡ nameNo es i′ → i ≡ i′
 same-record es w i i′ s s′ d d′ = w .once i i′ (d .inside) (d′ .inside) (declaration s (kindNo es i) (d .kind-is)) (declaration s′ (kindNo es i′) (d′ .kind-is))
 
--- ---- labels without a dot, and what may stand behind them
+-- ---- labels without a point
 
-abbrev pub NoDot : Label → Type 0
-NoDot l = EachBelow (length l) (λ k. getD l k 0 ≡ 46 → ⊥)
-
--- nothing, or a dot and more
-abbrev pub Behind : Label → Type 0
-Behind u = (u ≡ []) ⊎ ((v : Label) × (u ≡ 46 ∷ v))
-
--- a dot is no letter and no digit
-pub plain-no-dot : {l : Label} → Plain l → NoDot l
-plain-no-dot {l} p k h e =
-    let z : isAlphanum 46 ≡ true = ap isAlphanum (sym e) ∙ p .each k h in
-    true≢false (sym z)
+-- a point is no letter and no digit
+plain-pointless : (l : Label) → EachBelow (length l) (λ k. isAlphanum (getD l k 0) ≡ true) → Pointless l
+plain-pointless [] f = refl
+plain-pointless (b ∷ l) f =
+    let no : (b ≡ dot → ⊥) = λ e. true≢false (sym (f 0 (zero-lt-suc (length l))) ∙ ap isAlphanum e) in
+    rw (ne-eqb b dot no) (ap (λ (k : Label). b ∷ k) (plain-pointless l (λ k h. f (suc k) (suc-le-suc h))))
 
 -- a declaration has one label, spelled as a point's
 one-label : (s : Shape) → (kindAt (declaring s) .labels ≡ 1) × (kindAt (declaring s) .dotted ≡ kindAt newPoint .dotted)
@@ -93,23 +104,32 @@ one-label point = (refl, refl)
 one-label circle = (refl, refl)
 one-label arc = (refl, refl)
 
--- so a declared label is plain
-pub plain-name : (es : List Entry) → Fine es → (i : ℕ) (s : Shape) → Declares es i s → Plain (nameNo es i)
-plain-name es w i s d =
+-- so a declared label has none
+pub pointless : (es : List Entry) → Fine es → (i : ℕ) (s : Shape) → Declares es i s → Pointless (nameNo es i)
+pointless es w i s d =
     let sound = w .sound i (d .inside) in
     let k = ap kindAt (d .kind-is) in
-    rw (ap (λ (t : Kind). t .dotted) k ∙ one-label s .1) at (sound .spelled 0 (omega (arith, sound .count, ap (λ (t : Kind). t .labels) k, one-label s .0)))
+    let plain : Plain (nameNo es i) = rw (ap (λ (t : Kind). t .dotted) k ∙ one-label s .1) at (sound .spelled 0 (omega (arith, sound .count, ap (λ (t : Kind). t .labels) k, one-label s .0))) in
+    plain-pointless (nameNo es i) (plain .each)
 
-dot-first : (y : ℕ) (a u w : Label) → NoDot (y ∷ a) → Behind u → u ≡ y ∷ w → ⊥
-dot-first y a u w n (inl e) q = nil≢cons (sym e ∙ q)
-dot-first y a u w n (inr (v, e)) q = n 0 (zero-lt-suc (length a)) (sym (head-eq-of-cons-eq (sym e ∙ q)))
+-- so names say what labels say
+pub clear : (es : List Entry) → Fine es → Clear es
+clear es w = record {
+  once = λ i j b h d d′ same. omega (arith, b, w .once j i (omega (arith, b, h)) h d′ d same);
+  pointless = λ j h d. let (s, is) = shape-of (kindNo es j) d in pointless es w j s (record { inside = h; kind-is = is });
+}
 
--- two labels with something behind them are one only where the labels are
-pub same-stem : (a b u v : Label) → NoDot a → NoDot b → Behind u → Behind v → a ++ u ≡ b ++ v → a ≡ b
-same-stem [] [] u v n m p q e = refl
-same-stem [] (y ∷ b) u v n m p q e = absurd (dot-first y b u (b ++ v) m p e)
-same-stem (x ∷ a) [] u v n m p q e = absurd (dot-first x a v (a ++ u) n q (sym e))
-same-stem (x ∷ a) (y ∷ b) u v n m p q e =
-    let t : a ≡ b = same-stem a b u v (λ k h. n (suc k) (suc-le-suc h)) (λ k h. m (suc k) (suc-le-suc h)) p q (tail-eq-of-cons-eq e) in
-    let h : x ≡ y = head-eq-of-cons-eq e in
-    cc
+-- what may stand behind a declared label
+pub whole-known : KnownPart []
+whole-known = record { begins = refl; one = omega arith }
+
+pub center-known : KnownPart (bytes ".center")
+center-known = record { begins = refl; one = omega arith }
+
+-- the name of the label of a declared shape with a known part behind it
+pub name-told : (es : List Entry) → Fine es → (j : ℕ) (s : Shape) → Declares es j s → (suffix l : Label) → KnownPart suffix → nameNo es j ++ suffix ≡ l
+    → (recordBy (nameFor es l) ≡ j) × (kindBy (nameFor es l) ≡ declaring s)
+name-told es w j s d suffix l k e =
+    let decl = declaration s (kindNo es j) (d .kind-is) in
+    let (at, sort, part) = unpacked j (kindNo es j) (partNo suffix) (nameFor es l) (part-small suffix) (decl .1) (name-of es (clear es w) j suffix l (d .inside) decl k e) in
+    (at, omega (arith, sort, d .kind-is, part-small suffix))

@@ -1,7 +1,6 @@
 -- The ids of what a label names in a fine drawing, worked out from the record that declares its shape: the shape's slots stand together, and
 -- no other slot has its label. Assumes nothing.
-use mathlib.Core.Path.{_≡_, refl, ap, _∙_}
-use mathlib.Core.Logic.{inl, inr}
+use mathlib.Core.Path.{_≡_, refl, sym, ap, _∙_}
 use mathlib.Core.List.{List, [], _∷_, _++_, tail-eq-of-cons-eq}
 use Prim.Native.Nat.{ℕ, _+_, _-_, _≤_, _<_}
 use lib.ListN.{getD}
@@ -10,16 +9,18 @@ use Rattle.ground.specs.Words.{bytes}
 use Rattle.refusal.proofs.Says.{Says, says-iff, says-eq, says-and}
 use Rattle.layout.specs.Push.{onward}
 use Rattle.record.specs.Entry.{Label, Entry}
-use Rattle.index.specs.Labels.{nameNo}
-use Rattle.index.proofs.Laws.{says-same}
+use Rattle.names.specs.Labels.{nameNo}
+use Rattle.names.specs.Cut.{stem, Pointless, KnownPart}
+use Rattle.names.proofs.Laws.{says-same}
+use Rattle.names.proofs.Cut.{stem-of}
 use Rattle.drawing.specs.Needs.{Shape, point, circle, arc, declaring}
 use Rattle.lowering.specs.Slots.{Slot, slot, slotsOfShape, slots, size, firstSlot}
 use Rattle.lowering.specs.Rows.{Naming, whole, part, center, Names, names, idsWhere}
 use Rattle.lowering.specs.Offsets.{componentAt}
 use Rattle.lowering.specs.Demand.{noSlot, slotAt, Declares}
-use Rattle.lowering.specs.Steps.{sizeBy, centerBy, axisAt}
+use Rattle.lowering.specs.Sketch.{sizeBy, centerBy, axisAt}
 use Rattle.ground.proofs.Pieces.{Each, each-at}
-use Rattle.lowering.proofs.drawing.Fine.{Fine, NoDot, Behind, plain-no-dot, plain-name, same-stem}
+use Rattle.lowering.proofs.drawing.Fine.{Fine, pointless, whole-known, center-known}
 use Rattle.lowering.proofs.slots.Around.{each-slot, each-of-all, each-own}
 use Rattle.lowering.proofs.ids.Tested.{ids-in-row}
 use Rattle.lowering.proofs.slots.Components.{label-of, place-told, slot-of, own-slot, slot-is}
@@ -48,10 +49,10 @@ pub data XY : ℕ → Type 0 where
   the-x : XY 1
   the-y : XY 2
 
-pair-behind : {s : Shape} {u : Label} → PairPart s u → Behind u
-pair-behind the-point = inl refl
-pair-behind circle-center = inr (_, refl)
-pair-behind arc-center = inr (_, refl)
+pub pair-known : {s : Shape} {u : Label} → PairPart s u → KnownPart u
+pair-known the-point = whole-known
+pair-known circle-center = center-known
+pair-known arc-center = center-known
 
 -- it stands among its shape's slots where the steps find it
 pub record Stands (s : Shape) (u : Label) (a : ℕ) : Type 0 where
@@ -69,12 +70,12 @@ stands arc-center the-y = record { place = refl; inside = omega arith; is = λ l
 
 -- ---- the ids of a declared shape, and of one of its parts
 
--- a slot's label has no dot, and its part begins with one or is nothing
+-- a slot's label has no point, and its part begins with one or is nothing
 abbrev Clean : Slot → Type 0
-Clean t = NoDot (t .shape) × Behind (t .suffix)
+Clean t = Pointless (t .shape) × (stem (t .suffix) ≡ [])
 
 clean : (es : List Entry) → Fine es → Each Clean (slots es)
-clean es w = each-of-all Clean es (λ s. each-slot NoDot Clean s es (λ l n. each-own Clean s l (λ u a b. (n, b))) (λ j d. plain-no-dot (plain-name es w j s d)))
+clean es w = each-of-all Clean es (λ s. each-slot Pointless Clean s es (λ l n. each-own Clean s l (λ u a b. (n, b))) (λ j d. pointless es w j s d))
 
 append-cancel : (l a b : Label) → l ++ a ≡ l ++ b → a ≡ b
 append-cancel [] a b e = e
@@ -99,7 +100,7 @@ module _ (es : List Entry) (w : Fine es) (i : ℕ) (s : Shape) (d : Declares es 
       (λ e.
       let t = slotAt es j in
       let (plain, behind) = each-at Clean (slots es) noSlot (clean es w) j h in
-      let stem : t .shape ≡ l = same-stem (t .shape) l (t .suffix) u plain (plain-no-dot (plain-name es w i s d)) behind (pair-behind p) (e .0) in
+      let stem : t .shape ≡ l = sym (stem-of (t .shape) (t .suffix) (l ++ u) plain behind (e .0)) ∙ stem-of l u (l ++ u) (pointless es w i s d) (pair-known p .begins) refl in
       let suffix : t .suffix ≡ u = append-cancel l (t .suffix) u (rw stem at (e .0)) in
       let (k, g, q) = slot-is es w i s j d h stem in
       let place : componentAt s (t .suffix) (t .axis) ≡ k =

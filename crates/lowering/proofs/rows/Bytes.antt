@@ -9,7 +9,7 @@ use lib.Seq.{getD-at}
 use Rattle.layout.specs.Slots.{idsEnd}
 use Rattle.record.specs.Kinds.{Rule, firstRule, lastRule}
 use Rattle.record.specs.Entry.{Label, Entry, noEntry, entryAt}
-use Rattle.index.specs.Labels.{kindNo}
+use Rattle.names.specs.Labels.{kindNo}
 use Rattle.ground.specs.Lists.{flat}
 use Rattle.lowering.specs.Slots.{slots}
 use Rattle.row.proofs.Back.{length-row, id-read}
@@ -17,7 +17,7 @@ use Rattle.row.specs.Row.{Row, rowBytes, encodeRow, encodeRows, rowNo}
 use Rattle.lowering.specs.Rows.{namingOf, names, namedIds, rowFor, rulesOf, rowsOf}
 use Rattle.lowering.specs.Demand.{RowOf, rulesBefore}
 use Rattle.ground.proofs.Pieces.{Each, each-map, each-at, each-of, each-flat, length-flat, piece-at, getD-map, picks-around}
-use Rattle.index.proofs.Laws.{says-within}
+use Rattle.names.proofs.Laws.{says-within}
 use Rattle.lowering.proofs.drawing.Counts.{rules-pick, picks-count, picks-inside}
 use Rattle.lowering.proofs.ids.Tested.{ids-within}
 use Rattle.lowering.proofs.drawing.Fine.{Fine}

@@ -1,34 +1,31 @@
 -- A row's ids are put down label by label, and the rows rule by rule: each piece stands behind those before it. Assumes nothing.
 use mathlib.Core.Path.{_≡_, refl, sym, _∙_, ap}
 use mathlib.Core.Bool.{Bool, true, false}
-use mathlib.Core.List.{List, [], _∷_, _++_}
-use Prim.Native.Nat.{ℕ, zero, suc, _+_, _≤_, _<_}
+use mathlib.Core.List.{List, [], _∷_, _++_, append-nil}
+use Prim.Native.Nat.{ℕ, zero, suc, _+_, _*_, _≤_, _<_}
 use native.Mathlib.Omega.{arith}
 use native.Mathlib.Numerals.{add-one}
 use lib.ListN.{length, getD, take, drop, replicate, length-append, take-append-drop}
 use lib.Seq.{take-all, getD-drop}
 use borrow.Author.Tests.{le-leb}
-use Rattle.store.specs.Store.{written, Put}
-use Rattle.store.proofs.Laws.{written-none}
-use Rattle.layout.specs.declared.Layout.{Layout}
-use Rattle.layout.proofs.Onward.{over-front}
-use Rattle.record.specs.declared.Record.{Record}
-use Rattle.record.specs.Kinds.{kindAt, labelsColumn, needsColumn, table, cell, firstRule, lastRule}
-use Rattle.record.specs.Decode.{decodeAt}
-use Rattle.record.specs.Entry.{Entry, entryAt, labelNo, entryOf}
-use Rattle.index.specs.Labels.{drawn, within}
-use Rattle.index.proofs.Drawn.{drawn-at}
-use Rattle.record.proofs.Cells.{looked, needs-is}
-use Rattle.drawing.proofs.Laws.{labels-read, four-labels}
 use Rattle.ground.specs.Lists.{flat, upTo}
-use Rattle.row.specs.Row.{mostIds, rowBytes, eight, bytesOf, encodeRow}
-use Rattle.lowering.specs.Rows.{namingOf}
-use Rattle.lowering.specs.Lower.{onto}
-use Rattle.lowering.specs.Steps.{namingBy, spanOf, labelIds, rowIds, rowAt, rowIf, Addable, Added, Sayable, Begins, Writing}
 use Rattle.ground.proofs.Pieces.{flat-suc, flat-append}
+use Rattle.ground.proofs.UpTo.{length-up-to, getD-up-to}
+use Rattle.store.specs.Store.{written, Put}
+use Rattle.store.proofs.Laws.{written-length, written-none}
+use Rattle.layout.proofs.Onward.{over-front}
+use Rattle.record.specs.Record.{labelPlaces}
+use Rattle.record.specs.Kinds.{kindAt, needsColumn, table, cell, firstRule, lastRule}
+use Rattle.record.proofs.Cells.{looked, needs-is}
+use Rattle.names.specs.Labels.{within}
+use Rattle.drawing.specs.Needs.{codeAt}
+use Rattle.drawing.proofs.Laws.{four-labels}
+use Rattle.row.specs.Row.{mostIds, rowBytes, eight, bytesOf, encodeRow, encodeRows}
 use Rattle.row.proofs.Back.{length-row}
-use Rattle.lowering.proofs.ids.Six.{label-length}
-use Rattle.lowering.proofs.ids.Spans.{naming-is}
+use Rattle.lowering.specs.Lower.{onto}
+use Rattle.lowering.specs.Sketch.{Line, firstBy, spanBy, spanAt, spanIds, idsBy, rowBy, rowIf, rowsBy}
+use Rattle.lowering.specs.Steps.{namesAt, Added, Sayable, Begins, bytesIf, Writing}
+use Rattle.lowering.proofs.ids.Firsts.{zeros-at}
 
 -- ---- pieces put behind one another
 
@@ -45,88 +42,93 @@ module _ {A : Type 0} {f : A → List ℕ} {xs : List A} {was : List ℕ} {m : �
   pub pieces-end : length xs ≤ q → Begins (flat f xs) was m out
   pieces-end h = let all = take-all q xs h in record { count-is = rw all at (p .place); list-is = rw all at (p .is) }
 
-  module _ (d : A) (h : q < length xs) where
+  module _ (d : A) (h : q < length xs) (room : length (flat f xs) ≤ length was) where
     more : flat f (take (q + 1) xs) ≡ flat f (take q xs) ++ f (getD xs q d)
     more = rw add-one (flat-suc f xs q d h)
 
     -- the next has room where all have
-    pub piece-fits : length (flat f xs) ≤ length was → m + length (f (getD xs q d)) ≤ length out
-    piece-fits room =
+    pub piece-fits : m + length (f (getD xs q d)) ≤ length out
+    piece-fits =
         let all = ap (flat f) (sym (take-append-drop (q + 1) xs)) ∙ flat-append f (take (q + 1) xs) (drop (q + 1) xs) in
         omega (arith, room, p .place, p .long, simp length-append at (ap length all), simp length-append at (ap length more))
 
-    pub pieces-turn : (n : ℕ) (out′ : List ℕ) → length out′ ≡ length out → Added (f (getD xs q d)) out m n out′ → Pieces f xs was n out′ (q + 1)
-    pieces-turn n out′ same a = record {
+    pub pieces-turn : (n : ℕ) (out′ : List ℕ) → Added (f (getD xs q d)) out m n out′ → Pieces f xs was n out′ (q + 1)
+    unfolding written
+    pieces-turn n out′ a = record {
       is = a .list-is ∙ rw (p .is, p .place, more, length-append) (over-front (flat f (take q xs)) (f (getD xs q d)) was (length (flat f (take q xs))) refl);
       place = a .count-is ∙ rw (p .place, more, length-append) refl;
-      long = same ∙ p .long;
+      long = ap length (a .list-is) ∙ written-length out m (f (getD xs q d)) piece-fits ∙ p .long;
     }
+
+-- pieces of pieces
+flat-flat : {A B C : Type 0} (f : A → List B) (g : B → List C) (xs : List A) → flat (λ x. flat g (f x)) xs ≡ flat g (flat f xs)
+flat-flat f g [] = refl
+flat-flat f g (x ∷ xs) = rw (flat-flat f g xs) (sym (flat-append g (f x) (flat f xs)))
 
 -- ---- the ids of a row
 
--- what a rule's record and the table of kinds, as it is lent, tell of it
-pub record Told (e : Entry) (kind third n : ℕ) : Type 0 where
-  pub kind-is : kind ≡ e .kind
-  pub third-is : third ≡ e .third
-  pub count-is : n ≡ length (e .labels)
+-- the bytes of a row by eight places that begin with its ids: zeros behind ids change none of them
+pub row-is : (kind third bits : ℕ) (ids : List ℕ) (m : ℕ) (out : List ℕ) → Begins ids (replicate mostIds 0) m out → (b : List ℕ)
+    → b ≡ bytesOf (record { kind = kind; third = third; count = m; ids = out; bits = bits }) → b ≡ encodeRow (record { kind = kind; third = third; ids = ids; bits = bits })
+unfolding encodeRow bytesOf
+row-is kind third bits ids m out begins b eb =
+    let same : eight (ids ++ drop (length ids) (replicate mostIds 0)) ≡ eight ids = λ j. upTo mostIds (λ q. zeros-behind ids (length ids) mostIds q j) in
+    eb ∙ rw (begins .count-is, begins .list-is) (ap (λ (w : List ℕ). bytesOf (record { kind = kind; third = third; count = length ids; ids = w; bits = bits })) same)
+  where
+    zeros-behind : (ids : List ℕ) (k n q : ℕ) → getD (ids ++ drop k (replicate n 0)) q 0 ≡ getD ids q 0
+    zeros-behind [] k n q = getD-drop k (replicate n 0) q 0 ∙ zeros-at n (k + q)
+    zeros-behind (id ∷ ids) k n zero = refl
+    zeros-behind (id ∷ ids) k n (suc q) = zeros-behind ids k n q
 
-module _ (text records : List ℕ) (i : ℕ) (r : Record) (er : r ≡ decodeAt records i) where
-  entry-is : entryAt (drawn text records) i ≡ entryOf text r
-  entry-is = drawn-at text records i ∙ ap (entryOf text) (sym er)
+-- what name q of a rule stands for, by the code of its place in the table as it is lent, and by the table of names
+pub span-read : (lent : List (List ℕ)) (names : List ℕ) (kind third i q code : ℕ) → lent ≡ table → q < kindAt kind .labels → code ≡ cell lent kind (needsColumn + q)
+    → spanBy code third (getD names (i * labelPlaces + q) 0) ≡ spanAt kind third (namesAt names kind i) q
+span-read lent names kind third i q code is h found =
+    let e : code ≡ codeAt kind q = looked lent kind (needsColumn + q) code is found (needs-is kind q (omega (arith, h, four-labels kind))) in
+    rw (e, getD-up-to (kindAt kind .labels) (λ q. getD names (i * labelPlaces + q) 0) q 0 h) refl
 
-  pub told : (lent : List (List ℕ)) → lent ≡ table → {l : Layout} {ids : List ℕ} → Sayable (drawn text records) l ids (entryAt (drawn text records) i)
-      → (n : ℕ) → n ≡ cell lent (r .kind) labelsColumn → Told (entryAt (drawn text records) i) (r .kind) (r .third) n
-  unfolding entryOf
-  told lent is t n en = rw entry-is (record { kind-is = refl; third-is = refl; count-is = labels-read lent is (r .kind) n en ∙ sym (rw entry-is at (t .count)) })
+-- the ids of a rule's names, one name a turn
+abbrev pub Naming : (ℕ → ℕ) → ℕ → ℕ → ℕ → List ℕ → List ℕ → ℕ → List ℕ → ℕ → Type 0
+Naming first next kind third names = Pieces (λ q. spanIds first next (spanAt kind third names q)) (upTo (length names) (λ q. q))
 
-  -- its bytes
-  pub row-is : (l : Layout) (ids : List ℕ) (m : ℕ) (out : List ℕ) → Begins (rowIds (drawn text records) l ids (entryAt (drawn text records) i)) (replicate mostIds 0) m out → (b : List ℕ)
-      → b ≡ bytesOf (record { kind = r .kind; third = r .third; count = m; ids = out; bits = r .x }) → b ≡ rowAt (drawn text records) l ids (entryAt (drawn text records) i)
-  unfolding rowAt encodeRow bytesOf entryOf
-  row-is l ids m out begins b eb =
-      let given = rowIds (drawn text records) l ids (entryAt (drawn text records) i) in
-      let bytes : Entry → List ℕ = λ t. encodeRow (record { kind = t .kind; third = t .third; ids = given; bits = t .x }) in
-      let same : eight (given ++ drop (length given) (replicate mostIds 0)) ≡ eight given = λ j. upTo mostIds (λ q. zeros-behind given (length given) mostIds q j) in
-      eb ∙ rw (begins .count-is, begins .list-is) (ap (λ (w : List ℕ). bytesOf (record { kind = r .kind; third = r .third; count = length given; ids = w; bits = r .x })) same) ∙ sym (ap bytes entry-is)
-    where
-      zeros-at : (n q : ℕ) → getD (replicate {A = ℕ} n 0) q 0 ≡ 0
-      zeros-at zero q = refl
-      zeros-at (suc n) zero = refl
-      zeros-at (suc n) (suc q) = zeros-at n q
+module _ {first : ℕ → ℕ} {next kind third : ℕ} {names was : List ℕ} (s : Sayable first next kind third names) (full : length was ≡ mostIds) where
+  module _ {m : ℕ} {out : List ℕ} {q : ℕ} (p : Naming first next kind third names was m out q) where
+    module _ (h : q < length names) where
+      inside : q < length (upTo (length names) (λ q. q))
+      inside = rw (length-up-to (length names) (λ q. q)) h
 
-      -- zeros behind ids change none of them
-      zeros-behind : (ids : List ℕ) (k n q : ℕ) → getD (ids ++ drop k (replicate n 0)) q 0 ≡ getD ids q 0
-      zeros-behind [] k n q = getD-drop k (replicate n 0) q 0 ∙ zeros-at n (k + q)
-      zeros-behind (id ∷ ids) k n zero = refl
-      zeros-behind (id ∷ ids) k n (suc q) = zeros-behind ids k n q
+      room : length (flat (λ q. spanIds first next (spanAt kind third names q)) (upTo (length names) (λ q. q))) ≤ length was
+      unfolding idsBy
+      room = omega (arith, s .few, full)
 
--- what label q of a rule that can be said names, by the code of its place in the table as it is lent
-pub naming-read : {lent : List (List ℕ)} {es : List Entry} {l : Layout} {ids : List ℕ} {e : Entry} {kind third n q code : ℕ} → lent ≡ table → Sayable es l ids e
-    → Told e kind third n → q < length (e .labels) → code ≡ cell lent kind (needsColumn + q) → namingBy code ≡ namingOf (e .kind)
-naming-read {lent} {e = e} {kind} {q = q} {code} is s t h found =
-    let inside : q < kindAt kind .labels = rw (t .kind-is) (omega (arith, h, s .count)) in
-    ap namingBy (looked lent kind (needsColumn + q) code is found (needs-is kind q (omega (arith, inside, four-labels kind)))) ∙ naming-is kind q inside ∙ ap namingOf (t .kind-is)
+      pub name-fits : m + length (spanIds first next (spanAt kind third names q)) ≤ mostIds
+      name-fits = rw (getD-up-to (length names) (λ q. q) q 0 h, p .long, full) at (piece-fits p 0 inside room)
 
--- a label of a rule that can be said is added behind those before it
-pub addable : {es : List Entry} {l : Layout} {ids : List ℕ} {e : Entry} {was : List ℕ} {m : ℕ} {out : List ℕ} {q : ℕ} → Sayable es l ids e → length was ≡ mostIds → q < length (e .labels)
-    → Pieces (labelIds es l ids e) (e .labels) was m out q → Addable es (spanOf es (namingOf (e .kind)) (e .third) (labelNo e q)) out m
-addable {es} {l} {ids} {e} {q = q} t w h p = record {
-  found = t .found q h;
-  room = rw (label-length es l ids (namingOf (e .kind)) (e .third) (labelNo e q)) at (piece-fits p [] h (omega (arith, t .fits, w)));
-}
+      pub named-turn : (n : ℕ) (out′ : List ℕ) → Added (spanIds first next (spanAt kind third names q)) out m n out′
+          → Naming first next kind third names was n out′ (q + 1)
+      named-turn n out′ a = pieces-turn p 0 inside room n out′ (rw (getD-up-to (length names) (λ q. q) q 0 h) a)
+
+    pub named-end : length names ≤ q → Begins (idsBy first next kind third names) was m out
+    unfolding idsBy
+    named-end h = pieces-end p (rw (length-up-to (length names) (λ q. q)) h)
 
 -- ---- the rows
 
-module _ {es : List Entry} {l : Layout} {ids : List ℕ} {e : Entry} {rows : List ℕ} {at : ℕ} (w : Writing es l ids e rows at) where
+module _ {first : ℕ → ℕ} {next : ℕ} {l : Line} {rows : List ℕ} {at : ℕ} (w : Writing first next l rows at) where
   -- no rule: nothing is written
-  pub wrote-none : within firstRule lastRule (e .kind) ≡ false → Added (rowIf es l ids e) rows at at rows
+  pub wrote-none : within firstRule lastRule (l .kind) ≡ false → Added (bytesIf first next l) rows at at rows
   unfolding rowIf written
   wrote-none t = rw t (record { count-is = omega arith; list-is = sym (written-none rows at (omega (arith, w .room))) })
 
   -- a rule: its row is written
-  pub wrote-row : within firstRule lastRule (e .kind) ≡ true → (row rows′ : List ℕ) (b : Bool) → row ≡ rowAt es l ids e → Put rows at row b rows′
-      → Added (rowIf es l ids e) rows at (at + rowBytes) rows′
-  unfolding rowIf rowAt written
+  pub wrote-row : within firstRule lastRule (l .kind) ≡ true → (row rows′ : List ℕ) (b : Bool) → row ≡ encodeRow (rowBy first next l) → Put rows at row b rows′
+      → Added (bytesIf first next l) rows at (at + rowBytes) rows′
+  unfolding rowIf written
   wrote-row t row rows′ b er p =
-      let full : row ≡ rowIf es l ids e = er ∙ rw t refl in
+      let full : row ≡ bytesIf first next l = er ∙ rw (t, append-nil) refl in
       rw (← full) (record { count-is = rw (er, length-row) refl; list-is = p .buffer ∙ rw (le-leb (at + length row) (length rows) (rw full (w .room))) refl })
+
+-- the rows of all lines
+pub rows-flat : (first : ℕ → ℕ) (next : ℕ) (sk : List Line) → first ≡ firstBy sk → flat (bytesIf first next) sk ≡ encodeRows (rowsBy next sk)
+unfolding rowsBy
+rows-flat first next sk e = rw e (flat-flat (rowIf (firstBy sk) next) encodeRow sk)

@@ -14,8 +14,8 @@ use Rattle.layout.specs.Slots.{idsEnd}
 use Rattle.record.specs.Kinds.{firstRule, lastRule, Rule}
 use Rattle.record.specs.Entry.{Entry, noEntry, entryAt}
 use Rattle.ground.proofs.UpTo.{getD-up-to}
-use Rattle.index.specs.Labels.{kindNo}
-use Rattle.index.proofs.Laws.{says-within}
+use Rattle.names.specs.Labels.{kindNo}
+use Rattle.names.proofs.Laws.{says-within}
 use Rattle.row.specs.Row.{Row, held, mostIds, encodeRows, RowFits}
 use Rattle.row.specs.Formed.{idsOf, FieldsFormed, RowsFormed}
 use Rattle.row.proofs.Rows.{written-formed}

@@ -1,27 +1,28 @@
 -- The ids that a rule of a fine drawing carries: what the table needs of each label place tells which shape or part is named there, and so how many
 -- ids it comes to. Assumes nothing.
-use mathlib.Core.Path.{_≡_, refl, sym, ap, _∙_}
+use mathlib.Core.Path.{_≡_, refl, sym, _∙_}
 use mathlib.Core.Logic.{inl, inr}
-use mathlib.Core.Bool.{Bool, true, false, _||_, true≢false}
+use mathlib.Core.Bool.{Bool, true, false, not, _&&_, _||_, true≢false}
 use mathlib.Core.List.{List, [], _∷_, _++_, append-nil}
-use Prim.Native.Nat.{ℕ, zero, suc, _+_, _-_, _≤_, _<_}
+use Prim.Native.Nat.{ℕ, zero, suc, _+_, _≤_, _<_}
 use native.Mathlib.Omega.{arith}
 use lib.Dec.{eqb, ltb, leb}
-use lib.ListN.{length, getD, drop, length-append}
-use lib.Seq.{take-at, take-all, drop-at, getD-drop}
-use borrow.Author.Tests.{eqb-true, le-ltb, ltb-false, leb-true}
+use lib.ListN.{length}
+use borrow.Author.Tests.{eqb-true, le-ltb, leb-true}
 use Rattle.ground.specs.Words.{bytes}
 use Rattle.refusal.specs.First.{allBelow}
-use Rattle.refusal.proofs.Says.{refuted, says-so, says-all}
+use Rattle.refusal.proofs.Says.{refuted, says-so, says-and, says-not, says-all}
 use Rattle.layout.specs.Push.{onward}
 use Rattle.layout.proofs.Onward.{length-onward}
 use Rattle.record.specs.Kinds.{kindAt, Rule, firstRule, fixComponent, fixCenter}
 use Rattle.record.specs.Entry.{Label, Entry, entryAt, labelNo}
 use Rattle.record.specs.Sound.{Sound}
-use Rattle.index.specs.Labels.{kindNo, nameNo, same}
-use Rattle.index.proofs.Laws.{says-same}
+use Rattle.names.specs.Labels.{kindNo, nameNo, same}
+use Rattle.names.specs.Cut.{KnownPart}
+use Rattle.names.specs.Names.{nameFor}
+use Rattle.names.proofs.Laws.{says-same}
 use Rattle.drawing.specs.Needs as needs
-use needs.{Shape, point, circle, arc, Need, needAt}
+use needs.{Shape, point, circle, arc, Need, codeAt, needAt}
 use Rattle.drawing.specs.Faults.{Named, Meets}
 use Rattle.ground.specs.Lists.{flat}
 use Rattle.lowering.specs.Slots.{slots, size, firstSlot}
@@ -30,11 +31,10 @@ use Rattle.lowering.specs.Rows.{part, namingOf, names, idsWhere, namedId
 use Rattle.lowering.specs.Offsets.{componentAt, widthOf, widthAt, idsOfKind}
 use Rattle.lowering.specs.Demand.{slotAt, Declares, Carries}
 use Rattle.ground.proofs.Pieces.{sum-flat}
-use Rattle.lowering.specs.Steps.{endsIn, stemOf, centerSpan, spanOf}
-use Rattle.lowering.proofs.drawing.Fine.{Fine, NoDot, plain-no-dot, plain-name}
-use Rattle.lowering.proofs.drawing.Found.{declared-found}
-use Rattle.lowering.proofs.ids.Tested.{by-test, ids-named, ids-has, ids-rise}
-use Rattle.lowering.proofs.ids.Named.{sizes, says-names, PairPart, the-point, circle-center, arc-center, XY, the-x, the-y, stands, ids-whole, ids-part}
+use Rattle.lowering.specs.Sketch.{oneSlot, spanBy}
+use Rattle.lowering.proofs.drawing.Fine.{Fine, whole-known, name-told}
+use Rattle.lowering.proofs.ids.Tested.{ids-named, ids-has, ids-rise}
+use Rattle.lowering.proofs.ids.Named.{sizes, says-names, PairPart, pair-known, the-point, circle-center, arc-center, XY, the-x, the-y, stands, ids-whole, ids-part}
 
 -- ---- what the table needs
 
@@ -44,14 +44,17 @@ bare [] = false
 bare (c ∷ []) = same (c .suffix) []
 bare (c ∷ d ∷ cs) = false
 
--- but for kinds 4 and 18, a rule's labels are so: one computed test of the table
-abbrev bareKind : ℕ → Bool
-bareKind k = ltb k firstRule || ((eqb k fixComponent || eqb k fixCenter) || allBelow (kindAt k .labels) (λ q. bare (needAt k q)))
+-- but for kinds 4 and 18, a rule's labels are so, and their codes tell all slots of a shape: one computed test of the table
+abbrev bareAt : ℕ → ℕ → Bool
+bareAt k q = bare (needAt k q) && not (oneSlot (codeAt k q))
 
-bare-kind : (k : ℕ) → Rule k → (eqb k fixComponent || eqb k fixCenter) ≡ false → (q : ℕ) → q < kindAt k .labels → bare (needAt k q) ≡ true
+abbrev bareKind : ℕ → Bool
+bareKind k = ltb k firstRule || ((eqb k fixComponent || eqb k fixCenter) || allBelow (kindAt k .labels) (bareAt k))
+
+bare-kind : (k : ℕ) → Rule k → (eqb k fixComponent || eqb k fixCenter) ≡ false → (q : ℕ) → q < kindAt k .labels → bareAt k q ≡ true
 bare-kind k u a =
     let t : bareKind k ≡ true = says-all bareKind (λ n. bareKind n ≡ true) (λ n. says-so) 24 .so refl k (omega (arith, u .1)) in
-    says-all (λ q. bare (needAt k q)) (λ q. bare (needAt k q) ≡ true) (λ q. says-so) (kindAt k .labels) .so (rw (le-ltb k firstRule (u .0), a) at t)
+    says-all (bareAt k) (λ q. bareAt k q ≡ true) (λ q. says-so) (kindAt k .labels) .so (rw (le-ltb k firstRule (u .0), a) at t)
 
 -- no rule comes to more than eight ids: one computed test
 abbrev fewIds : ℕ → Bool
@@ -72,29 +75,9 @@ bare-met es (c ∷ []) l b (inl (j, h, (k, q))) =
 bare-met es (c ∷ []) l b (inr m) = absurd m
 bare-met es (c ∷ d ∷ cs) l b m = absurd (true≢false (sym b))
 
--- ---- labels that end in a suffix
-
--- a label with a center's suffix
-ends-in-own : (a c : Label) → endsIn (a ++ c) c ≡ true
-ends-in-own a c =
-    let n : length (a ++ c) - length c ≡ length a = omega (arith, length-append a c) in
-    rw (le-ltb (length (a ++ c)) (length c) (omega (arith, length-append a c)), n, drop-at a c (length a) refl) (says-same c c .back refl)
-
--- one without a dot
-no-center : (a : Label) → NoDot a → endsIn a (bytes ".center") ≡ false
-no-center a n =
-    by-test (λ (t : Bool). t ≡ false) (ltb (length a) 7) false (same (drop (length a - 7) a) (bytes ".center")) (λ e. refl)
-    (λ e. refuted (says-same (drop (length a - 7) a) (bytes ".center"))
-    (λ q. n (length a - 7 + 0) (omega (arith, ltb-false (length a) 7 e)) (sym (getD-drop (length a - 7) a 0 0) ∙ ap (λ (z : Label). getD z 0 0) q)))
-
-stem-is : (a : Label) → NoDot a → {s : Shape} {u : Label} → PairPart s u → stemOf (a ++ u) ≡ a
-stem-is a n the-point = rw (append-nil, no-center a n) (take-all (length a - 0) a (omega arith))
-stem-is a n circle-center = rw (ends-in-own a (bytes ".center")) (take-at a (bytes ".center") (length (a ++ bytes ".center") - 7) (omega (arith, length-append a (bytes ".center"))))
-stem-is a n arc-center = rw (ends-in-own a (bytes ".center")) (take-at a (bytes ".center") (length (a ++ bytes ".center") - 7) (omega (arith, length-append a (bytes ".center"))))
-
 -- ---- a label of a rule, worked out
 
--- label q of the rule e names so many slots, from a first one on, of the shape that a record declares: the steps find them, and their ids are meant
+-- label q of the rule e names so many slots, from a first one on, of the shape that a record declares: its name tells them, and their ids are meant
 pub record WorkedOut (es : List Entry) (next : ℕ) (e : Entry) (q : ℕ) : Type 0 where
   pub at : ℕ
   pub shape : Shape
@@ -104,7 +87,7 @@ pub record WorkedOut (es : List Entry) (next : ℕ) (e : Entry) (q : ℕ) : Type
   pub some : 0 < count
   pub inside : first + count ≤ size shape
   pub wide : count ≡ widthAt (e .kind) q
-  pub span : spanOf es (namingOf (e .kind)) (e .third) (labelNo e q) ≡ record { shape = at; first = first; count = count }
+  pub span : spanBy (codeAt (e .kind) q) (e .third) (nameFor es (labelNo e q)) ≡ record { shape = at; first = first; count = count }
   pub ids-are : namedIds es next e (labelNo e q) ≡ onward (next + (firstSlot shape es at + first)) count
 
 -- a third byte from 1 to 2
@@ -117,32 +100,33 @@ xy (suc (suc (suc a))) h g = absurd (omega (arith, h))
 module _ (es : List Entry) (w : Fine es) (next : ℕ) (e : Entry) where
   -- the x or y of a point or a center
   module _ (s : Shape) (u : Label) (p : PairPart s u) (o : XY (e .third)) where
-    parted : (j q : ℕ) → Declares es j s → 1 ≡ widthAt (e .kind) q → spanOf es (namingOf (e .kind)) (e .third) (labelNo e q) ≡ centerSpan es (e .third) (nameNo es j)
+    parted : (j q : ℕ) → Declares es j s → 1 ≡ widthAt (e .kind) q → oneSlot (codeAt (e .kind) q) ≡ true → (v : Label) → KnownPart v → nameNo es j ++ v ≡ labelNo e q
         → namedIds es next e (labelNo e q) ≡ idsWhere (names part (e .third) (nameNo es j ++ u)) next (slots es) → WorkedOut es next e q
-    parted j q d one span ids = record {
-      at = j;
-      shape = s;
-      declared = d;
-      first = componentAt s u (e .third);
-      count = 1;
-      some = omega arith;
-      inside = omega (arith, stands p o .inside);
-      wide = one;
-      span = span ∙ rw (declared-found es w j s d, d .kind-is, stands p o .place) refl;
-      ids-are = ids ∙ ids-part es w j s d next (e .third) p o;
-    }
+    unfolding spanBy
+    parted j q d one code v k name ids =
+        let (at, kind) = name-told es w j s d v (labelNo e q) k name in
+        record {
+          at = j;
+          shape = s;
+          declared = d;
+          first = componentAt s u (e .third);
+          count = 1;
+          some = omega arith;
+          inside = omega (arith, stands p o .inside);
+          wide = one;
+          span = rw (code, at, kind, stands p o .place) refl;
+          ids-are = ids ∙ ids-part es w j s d next (e .third) p o;
+        }
 
     at-part : e .kind ≡ fixComponent → Named es s u (labelNo e 0) → WorkedOut es next e 0
-    unfolding spanOf namedIds
-    at-part k (j, h, (d, name)) =
-        let own : Declares es j s = record { inside = h; kind-is = d } in
-        parted j 0 own (rw k refl) (rw (k, ← name, stem-is (nameNo es j) (plain-no-dot (plain-name es w j s own)) p) refl) (rw (k, ← name) refl)
+    unfolding namedIds
+    at-part k (j, h, (d, name)) = parted j 0 (record { inside = h; kind-is = d }) (rw k refl) (rw k refl) u (pair-known p) name (rw (k, ← name) refl)
 
     at-center : u ≡ bytes ".center" → e .kind ≡ fixCenter → Named es s [] (labelNo e 0) → WorkedOut es next e 0
-    unfolding spanOf namedIds
+    unfolding namedIds
     at-center c k (j, h, (d, q)) =
         let name : labelNo e 0 ≡ nameNo es j = sym q ∙ append-nil (nameNo es j) in
-        parted j 0 (record { inside = h; kind-is = d }) (rw k refl) (rw (k, name) refl) (rw (k, name, c) refl)
+        parted j 0 (record { inside = h; kind-is = d }) (rw k refl) (rw k refl) [] whole-known q (rw (k, name, c) refl)
 
   fixed-part : e .kind ≡ fixComponent → XY (e .third) → Meets es (needAt fixComponent 0) (labelNo e 0) → WorkedOut es next e 0
   fixed-part k o (inl m) = at-part point [] the-point o k m
@@ -164,10 +148,11 @@ module _ (es : List Entry) (w : Fine es) (next : ℕ) (e : Entry) where
   fixed k (suc q) one two f is s h m = absurd (omega (arith, one, rw is at h))
 
   -- all slots of a shape
-  wholly : (q : ℕ) → eqb (e .kind) fixComponent ≡ false → eqb (e .kind) fixCenter ≡ false → BareMet es (needAt (e .kind) q) (labelNo e q) → WorkedOut es next e q
-  unfolding spanOf namedIds
-  wholly q a b (j, s, d, name, wide) =
+  wholly : (q : ℕ) → eqb (e .kind) fixComponent ≡ false → eqb (e .kind) fixCenter ≡ false → oneSlot (codeAt (e .kind) q) ≡ false → BareMet es (needAt (e .kind) q) (labelNo e q) → WorkedOut es next e q
+  unfolding spanBy namedIds
+  wholly q a b code (j, s, d, name, wide) =
       let none : firstSlot s es j + 0 ≡ firstSlot s es j = omega arith in
+      let (at, kind) = name-told es w j s d [] (labelNo e q) whole-known (append-nil (nameNo es j) ∙ name) in
       record {
         at = j;
         shape = s;
@@ -177,7 +162,7 @@ module _ (es : List Entry) (w : Fine es) (next : ℕ) (e : Entry) where
         some = sizes s .0;
         inside = omega arith;
         wide = wide ∙ rw (a, b) refl;
-        span = rw (a, b, ← name, declared-found es w j s d, d .kind-is, sizes s .2) refl;
+        span = rw (code, at, kind, sizes s .2) refl;
         ids-are = rw (a, b, ← name, none) (ids-whole es w j s d next (e .third));
       }
 
@@ -187,7 +172,9 @@ module _ (es : List Entry) (w : Fine es) (next : ℕ) (e : Entry) where
       go : (a : Bool) → eqb (e .kind) fixComponent ≡ a → (b : Bool) → eqb (e .kind) fixCenter ≡ b → WorkedOut es next e q
       go true a b f = fixed fixComponent q refl refl fixed-part (eqb-true (e .kind) fixComponent a) s h m
       go false a true f = fixed fixCenter q refl refl fixed-center (eqb-true (e .kind) fixCenter f) s h m
-      go false a false f = wholly q a f (bare-met es (needAt (e .kind) q) (labelNo e q) (bare-kind (e .kind) u (rw (a, f) refl) q h) m)
+      go false a false f =
+          let b = says-and says-so (says-not says-so) .so (bare-kind (e .kind) u (rw (a, f) refl) q h) in
+          wholly q a f (refuted says-so (b .1)) (bare-met es (needAt (e .kind) q) (labelNo e q) (b .0) m)
 
 -- ---- a rule of a fine drawing
 

@@ -1,6 +1,5 @@
 -- Where the slots of a declared shape stand among all slots: its kind's labels are cut at its own, and no other slot has its label. Assumes nothing.
 use mathlib.Core.Path.{_≡_, refl, sym, ap, _∙_}
-use mathlib.Core.Logic.{inl, inr}
 use mathlib.Core.Bool.{true}
 use mathlib.Core.List.{List, [], _∷_, _++_, append-assoc, append-nil}
 use Prim.Native.Nat.{ℕ, suc, _+_, _*_, _<_}
@@ -9,15 +8,16 @@ use lib.ListN.{length, take, drop, length-append, length-drop}
 use lib.Seq.{getD-take, getD-drop, length-take-le}
 use Rattle.refusal.proofs.Says.{says-eq}
 use Rattle.record.specs.Entry.{Label, Entry, noEntry, entryAt, labelNo}
-use Rattle.index.specs.Labels.{kindNo, nameNo, within}
+use Rattle.names.specs.Labels.{kindNo, nameNo, within}
+use Rattle.names.specs.Cut.{stem}
 use Rattle.drawing.specs.Needs.{Shape, point, circle, arc, declaring}
 use Rattle.ground.specs.Lists.{flat}
 use Rattle.lowering.specs.Slots.{Slot, slot, slotsOfShape, labelsOf, slotsOf, slots, size, before, firstSlot}
 use Rattle.lowering.specs.Demand.{Declares}
 use Rattle.ground.proofs.Pieces.{Each, each-append, each-flat, flat-append, picks-around, picks-each}
-use Rattle.index.proofs.Laws.{within-one}
+use Rattle.names.proofs.Laws.{within-one}
 use Rattle.lowering.proofs.drawing.Counts.{labels-pick, picks-count, length-of, all-of}
-use Rattle.lowering.proofs.drawing.Fine.{Fine, same-record, Behind}
+use Rattle.lowering.proofs.drawing.Fine.{Fine, same-record}
 
 -- ---- what holds of each declared shape's label holds of each slot's
 
@@ -36,11 +36,11 @@ each-of-all Q es f =
     (each-append Q (slotsOf circle es) (slotsOf arc es) (f circle) (f arc))
 
 -- what holds of a shape's label, whatever stands behind it, holds of its slots
-pub each-own : (Q : Slot → Type 0) (s : Shape) (l : Label) → ((u : Label) (a : ℕ) → Behind u → Q (slot l u a)) → Each Q (slotsOfShape s l)
-each-own Q point l f = (f _ _ (inl refl), (f _ _ (inl refl), tt))
-each-own Q circle l f = (f _ _ (inr (_, refl)), (f _ _ (inr (_, refl)), (f _ _ (inr (_, refl)), tt)))
+pub each-own : (Q : Slot → Type 0) (s : Shape) (l : Label) → ((u : Label) (a : ℕ) → stem u ≡ [] → Q (slot l u a)) → Each Q (slotsOfShape s l)
+each-own Q point l f = (f _ _ refl, (f _ _ refl, tt))
+each-own Q circle l f = (f _ _ refl, (f _ _ refl, (f _ _ refl, tt)))
 each-own Q arc l f =
-    (f _ _ (inr (_, refl)), (f _ _ (inr (_, refl)), (f _ _ (inr (_, refl)), (f _ _ (inr (_, refl)), (f _ _ (inr (_, refl)), (f _ _ (inr (_, refl)), tt))))))
+    (f _ _ refl, (f _ _ refl, (f _ _ refl, (f _ _ refl, (f _ _ refl, (f _ _ refl, tt))))))
 
 -- ---- the slots of the shape that record i declares, in a drawing that the check passes
 

@@ -9,15 +9,14 @@ use lib.Seq.{getD-append-add}
 use Rattle.ground.specs.Lists.{upTo}
 use Rattle.refusal.specs.First.{EachBelow}
 use Rattle.record.specs.Entry.{Label, Entry}
-use Rattle.index.specs.Labels.{kindNo, nameNo}
+use Rattle.names.specs.Labels.{kindNo, nameNo}
 use Rattle.drawing.specs.Needs.{Shape, point, circle, arc}
 use Rattle.lowering.specs.Slots.{Slot, slotsOfShape, slots, size, firstSlot}
 use Rattle.lowering.specs.Offsets.{componentAt}
 use Rattle.lowering.specs.Demand.{noSlot, slotAt, Declares, ComponentOf, OneComponent}
-use Rattle.lowering.specs.Steps.{shapeOf}
 use Rattle.ground.proofs.Pieces.{Each, each-of, each-at}
 use Rattle.lowering.proofs.drawing.Counts.{length-shape, slots-by}
-use Rattle.lowering.proofs.drawing.Fine.{Fine, shape-back, same-record}
+use Rattle.lowering.proofs.drawing.Fine.{Fine, shapeOf, shape-back, same-record}
 use Rattle.lowering.proofs.slots.Around.{Other, around, each-slot, each-of-all, each-own}
 
 -- ---- each slot is a component of a declared shape

@@ -13,7 +13,7 @@ use Rattle.layout.specs.Slots as layout
 use Rattle.layout.specs.Parts.{shapeAt}
 use Rattle.layout.proofs.Parts.{reads}
 use Rattle.record.specs.Entry.{Label, Entry}
-use Rattle.index.specs.Labels.{nameNo}
+use Rattle.names.specs.Labels.{nameNo}
 use Rattle.drawing.specs.Needs.{Shape, point, circle, arc}
 use Rattle.lowering.specs.Slots.{Slot, slotsOfShape, slots, size, before, kindFor, layoutOf, firstSlot}
 use Rattle.lowering.specs.Fields.{fieldOf}

@@ -18,7 +18,7 @@ use Rattle.layout.specs.Push.{onward}
 use Rattle.layout.proofs.Onward.{length-onward, getD-onward}
 use Rattle.layout.proofs.Laws.{look-passes}
 use Rattle.record.specs.Entry.{Label, Entry}
-use Rattle.index.specs.Labels.{nameNo}
+use Rattle.names.specs.Labels.{nameNo}
 use Rattle.drawing.specs.Needs.{Shape, point, circle, arc}
 use Rattle.lowering.specs.Slots.{Slot, slotsOfShape, slots, size, before, kindFor, layoutOf, firstSlot}
 use Rattle.lowering.specs.Fields.{Ids, of-point, of-circle, of-arc, idsKind, idOf}
@@ -61,7 +61,7 @@ module _ (es : List Entry) (few : length es ≤ layout.mostShapes) (ids : List �
   clear : (i : ℕ) (s : Shape) → before s es i < layout.shapesIn (kindFor s) (layoutOf es) → lookTold (kindFor s) (layoutOf es) (length ids) (before s es i) ≡ passed
   clear i s = look-passes (kindFor s) (layoutOf es) (length ids) (before s es i) (possible es few) (omega (arith, long, length-slots es))
 
-  pub handed-back : (i : ℕ) (s : Shape) → Declares es i s → HandsIds es ids i (taken ids (firstSlot s es i) s)
+  handed-back : (i : ℕ) (s : Shape) → Declares es i s → HandsIds es ids i (taken ids (firstSlot s es i) s)
   unfolding pointIds circleIds arcSlotIds
   handed-back i point d = answered-passed reasonNumber PI.Refused _ _ (clear i point (before-inside es i point d))
   handed-back i circle d = answered-passed reasonNumber CI.Refused _ _ (clear i circle (before-inside es i circle d))

@@ -1,10 +1,9 @@
 -- What the steps of the code come to: a push that is taken or refused, the pushes of a kind, and the stages. Assumes nothing.
 use mathlib.Core.Path.{_≡_, refl, sym, _∙_, ap}
 use mathlib.Core.List.{List}
-use Prim.Native.Nat.{ℕ, _+_, _≤_, _<_}
+use Prim.Native.Nat.{ℕ, _+_}
 use native.Mathlib.Numerals.{add-one}
-use lib.ListN.{length, drop, drop-of-length-le}
-use lib.Seq.{drop-cons}
+use lib.ListN.{length}
 use lib.Ieee.{Float}
 use borrow.Author.Tests.{eq-eqb, ne-eqb}
 use Rattle.layout.specs.declared.Layout.{Layout}
@@ -18,8 +17,8 @@ use Rattle.layout.specs.Push.{State, state, after, Push, toldIn, filled, steppe
 use Rattle.layout.specs.Steps.{nextAfter}
 use Rattle.layout.specs.Run.{act, done}
 use Rattle.refusal.proofs.Once.{answered-pair}
-use Rattle.record.specs.Entry.{Label, Entry, noEntry, entryAt, labelNo}
-use Rattle.lowering.specs.Steps.{shapeFor, shapeOf, layoutAfter, layoutThen, pushedAt, pushedAll, stage, laid, Slotted}
+use Rattle.lowering.specs.Sketch.{figureOf}
+use Rattle.lowering.specs.Steps.{layoutAfter, layoutThen, pushedAt, pushedTo, stage, laid, Slotted}
 
 -- ---- a push
 
@@ -33,31 +32,31 @@ push-state shape l next ids values r ids′ values′ p =
     rw (p .answer, p .ids-are, p .values-are)
     (answered-pair reasonNumber (λ (q : Pushed) (t : State). state (layoutAfter q l) (nextAfter q next) (t .ids) (t .values) ≡ t) P.Refused (λ r. s) (toldIn k s) (P.Good (filled k vs s .layout) (filled k vs s .next)) (filled k vs s) (λ r. refl) (λ c. refl))
 
-module _ (es : List Entry) (kind : ℕ) (e : Entry) (s : State) (k : ℕ) (is : k ≡ e .kind) where
-  -- an entry of the kind is pushed
-  pub pushed-one : k ≡ kind → (name : Label) (t : State) → name ≡ labelNo e 0 → t ≡ after (shapeFor es (shapeOf kind) name) s → t ≡ pushedAt es kind e s
-  unfolding pushedAt
-  pushed-one f name t en et = et ∙ rw (eq-eqb (e .kind) kind (sym is ∙ f), en) refl
+module _ (kinds : ℕ → ℕ) (numbers : ℕ → ℕ → ℕ × ℕ) (kind : ℕ) where
+  module _ (i : ℕ) (s : State) (k : ℕ) (is : k ≡ kinds i) where
+    -- a line of the kind is pushed
+    pub pushed-one : k ≡ kind → (t : State) → t ≡ after (figureOf (numbers i) kind) s → t ≡ pushedAt kinds numbers kind i s
+    unfolding pushedAt
+    pushed-one f t e = e ∙ rw (eq-eqb (kinds i) kind (sym is ∙ f)) refl
 
-  -- any other is passed over
-  pub pushed-none : (k ≡ kind → ⊥) → s ≡ pushedAt es kind e s
-  unfolding pushedAt
-  pushed-none f = rw (ne-eqb (e .kind) kind (λ q. f (is ∙ q))) refl
+    -- any other is passed over
+    pub pushed-none : (k ≡ kind → ⊥) → s ≡ pushedAt kinds numbers kind i s
+    unfolding pushedAt
+    pushed-none f = rw (ne-eqb (kinds i) kind (λ q. f (is ∙ q))) refl
 
--- the first i entries are done
-pub record Pushes (es : List Entry) (kind : ℕ) (first now : State) (i : ℕ) : Type 0 where
-  pub left : pushedAll es kind (drop i es) now ≡ pushedAll es kind es first
-  pub ids-long : length (now .ids) ≡ length (first .ids)
-  pub values-long : length (now .values) ≡ length (first .values)
+  -- the first i lines are done
+  pub record Pushes (first now : State) (i : ℕ) : Type 0 where
+    pub is : now ≡ pushedTo kinds numbers kind i first
+    pub ids-long : length (now .ids) ≡ length (first .ids)
+    pub values-long : length (now .values) ≡ length (first .values)
 
-module _ {es : List Entry} {kind : ℕ} {first now : State} {i : ℕ} (p : Pushes es kind first now i) where
-  pub pushes-turn : (t : State) → i < length es → t ≡ pushedAt es kind (entryAt es i) now → length (t .ids) ≡ length (now .ids) → length (t .values) ≡ length (now .values) → Pushes es kind first t (i + 1)
-  unfolding pushedAll
-  pushes-turn t h e n m = record { left = rw (add-one, e) (rw (drop-cons es i noEntry h) at (p .left)); ids-long = n ∙ p .ids-long; values-long = m ∙ p .values-long }
+  pub pushes-start : (first : State) → Pushes first first 0
+  unfolding pushedTo
+  pushes-start first = record { is = refl; ids-long = refl; values-long = refl }
 
-  pub pushes-end : length es ≤ i → now ≡ pushedAll es kind es first
-  unfolding pushedAll
-  pushes-end h = rw (drop-of-length-le es h) at (p .left)
+  pub pushes-turn : (first now t : State) (i : ℕ) → Pushes first now i → t ≡ pushedAt kinds numbers kind i now → length (t .ids) ≡ length (now .ids) → length (t .values) ≡ length (now .values) → Pushes first t (i + 1)
+  unfolding pushedTo
+  pushes-turn first now t i p e n m = record { is = rw add-one (e ∙ ap (pushedAt kinds numbers kind i) (p .is)); ids-long = n ∙ p .ids-long; values-long = m ∙ p .values-long }
 
 -- ---- stages
 
@@ -70,9 +69,9 @@ staged now then e =
     (ap (act done) e)
 
 -- three of them
-pub laid-by : (es : List Entry) (first a b c : State) → a ≡ stage es 1 first → b ≡ stage es 2 a → c ≡ stage es 3 b → c ≡ laid es first
+pub laid-by : (kinds : ℕ → ℕ) (numbers : ℕ → ℕ → ℕ × ℕ) (n : ℕ) (first a b c : State) → a ≡ stage kinds numbers n 1 first → b ≡ stage kinds numbers n 2 a → c ≡ stage kinds numbers n 3 b → c ≡ laid kinds numbers n first
 unfolding laid
-laid-by es first a b c ea eb ec = ec ∙ ap (stage es 3) (eb ∙ ap (stage es 2) ea)
+laid-by kinds numbers n first a b c ea eb ec = ec ∙ ap (stage kinds numbers n 3) (eb ∙ ap (stage kinds numbers n 2) ea)
 
 -- a state, by its parts
 pub slotted : (s : State) (l : Layout) (next : ℕ) (ids : List ℕ) (values : List Float) → state l next ids values ≡ s → Slotted s l ids values

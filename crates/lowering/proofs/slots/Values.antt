@@ -1,22 +1,24 @@
 -- Each slot of a fine drawing starts at its component's guess: its part is guessed, and guessed once. Assumes nothing.
 use mathlib.Core.Path.{_≡_, refl, sym, _∙_}
-use mathlib.Core.List.{List, []}
+use mathlib.Core.List.{List}
 use Prim.Native.Nat.{ℕ, _<_}
 use native.Mathlib.Omega.{arith}
 use lib.Dec.{eqb}
 use lib.ListN.{length, getD, length-map}
 use lib.Ieee.{nan}
 use Rattle.refusal.specs.First.{EachBelow, SomeBelow}
-use Rattle.record.specs.Kinds.{pairGuess, Guess}
+use Rattle.refusal.proofs.Says.{refuted}
+use Rattle.record.specs.Kinds.{pairGuess, numberGuess, Guess}
 use Rattle.record.specs.Entry.{Label, Entry}
-use Rattle.index.specs.Labels.{kindNo}
+use Rattle.names.specs.Labels.{kindNo, nameNo, labelled, lowestOr}
+use Rattle.names.proofs.First.{lowest-here}
+use Rattle.names.proofs.Names.{says-labelled}
 use Rattle.drawing.specs.Needs.{Shape, point, circle, arc, Part, parts}
 use Rattle.drawing.specs.Faults.{Guessed}
 use Rattle.lowering.specs.Slots.{Slot, slotsOfPart, slots, guessOf, startOf, valuesOf}
 use Rattle.lowering.specs.Demand.{noSlot, slotAt, GuessFor, Starts}
 use Rattle.ground.proofs.Pieces.{Each, each-at, each-both, each-flat, getD-map}
 use Rattle.lowering.proofs.drawing.Fine.{Fine}
-use Rattle.lowering.proofs.drawing.Found.{guess-found}
 use Rattle.lowering.proofs.ids.Tested.{by-test}
 use Rattle.lowering.proofs.slots.Around.{each-slot, each-of-all}
 
@@ -45,6 +47,12 @@ has-guess es w =
     (λ j d. w .guessed-all j s d))
 
 -- ---- what it starts at
+
+-- a guess is found by its label: no other has it
+guess-found : (es : List Entry) → Fine es → (g : ℕ) → g < length es → Guess (kindNo es g) → lowestOr (length es) (labelled es pairGuess numberGuess (nameNo es g)) ≡ g
+guess-found es w g h k =
+    sym (lowest-here (length es) (labelled es pairGuess numberGuess (nameNo es g)) g h (says-labelled es pairGuess numberGuess (nameNo es g) g .back (k, refl))
+    (λ i b. refuted (says-labelled es pairGuess numberGuess (nameNo es g) i) (λ q. omega (arith, b, w .guess-once i g (omega (arith, b, h)) h (q .0) k (q .1)))))
 
 pub starts : (es : List Entry) → Fine es → EachBelow (length (slots es)) (λ j. Starts es (slotAt es j) (startOf es (slotAt es j)))
 unfolding guessOf

@@ -4,5 +4,4 @@ use Rattle.record.proofs.view_bytes.Statement.{statement}
 use Rattle.record.proofs.view_bytes.Tie as tie
 
 pub view-bytes-spec : {M : Type 1} → statement M
-view-bytes-spec = tie.close (tie.spec (λ c κs. search needs) (λ c κs. search needs) (λ c. search needs) (λ c. search needs) (λ c. search needs) (λ c. search needs)
-    (λ c. rw (c .before .le16 .ensures, c .le162 .ensures)))
+view-bytes-spec = tie.close (tie.spec (λ c κs. search needs) (λ c κs. search needs) (λ c. search needs) (λ c. search needs) (λ c. search needs) (λ c. search needs) (λ c. rw (c .before .le16 .ensures, c .le162 .ensures)))

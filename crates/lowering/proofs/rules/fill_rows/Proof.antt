@@ -1,25 +1,41 @@
--- `lowering::rules::fill_rows` meets its contract: the numbers and the chains of the declarations, then the rows. Assumes nothing.
+-- `lowering::rules::fill_rows` meets its contract: the first slots; then after i turns the rows of the first i records are written. Assumes nothing.
 use native.Mathlib.Omega.{arith}
 use mathlib.Core.Path.{refl}
-use Rattle.index.proofs.Drawn.{drawn-length}
-use Rattle.index.proofs.Found.{chained}
-use Rattle.lowering.proofs.answer.Joining.{tables-are}
+use Prim.Native.Nat.{_-_}
+use Rattle.record.specs.Decode.{countOf}
+use Rattle.lowering.specs.Steps.{sketchIn, firstAt, bytesIf}
+use Rattle.lowering.proofs.rows.Filling.{Pieces, pieces-start}
+use Rattle.lowering.proofs.rows.Lines.{writing, rows-turn, rows-end}
 use borrow.Author.Needs.{needs}
 use Rattle.lowering.proofs.rules.fill_rows.Statement.{statement}
 use Rattle.lowering.proofs.rules.fill_rows.Tie as tie
 
-number-requires : tie.Need-number-requires
-number-requires c κs =
-    let s = c .before .before .before .before .before in
-    let n = drawn-length (s .args .text .now) (s .args .records .now) in
-    (omega (arith, s .pre .0, n), omega (arith, s .pre .0, n))
+abbrev Inv-loop : tie.InvT-loop
+Inv-loop records names points circles next rows₀ kinds firsts n at₀ i₀ rows at i = Pieces (bytesIf (firstAt firsts) next) (sketchIn records names) rows₀ at rows i
 
-write-rows-requires : tie.Need-write-rows-requires
-write-rows-requires c κs =
-    let s = c .before .before .before .before .before .before .before .before .before .before .before .before .before .before in
-    let number = c .before .before .before .before .before .before .before .before .number in
-    (refl, tables-are (s .args .text .now) (s .args .records .now) _ _ (chained (s .pre .0) (c .before .before .before .before .before .chain .ensures) refl) (omega (arith, s .pre .0, number .kept .1 .0)) (number .ensures), s .pre .1)
+abbrev μ-loop : tie.MeasureT-loop
+μ-loop records names points circles next rows₀ kinds firsts n at₀ i₀ rows at i = countOf records - i
+
+first-slots-requires : tie.Need-first-slots-requires Inv-loop μ-loop
+first-slots-requires c κs = (c .before .before .before .pre .0, refl)
+
+write-row-requires : tie.Need-write-row-requires Inv-loop μ-loop
+write-row-requires c κs =
+    let s = c .before .before .before .before .before .before .before .before .before in
+    let f = c .before .before .before .before .before .first-slots in
+    (refl, omega (arith, s .pre .0 .few), writing (s .args .records .now) (s .args .names .now) (f .last .1 .1 .1 .0) (s .args .next) _ (f .ensures) (s .pre .1) _ _ _ (c .before .before .before .before .loop .inv) (omega arith))
+
+loop-again : tie.Need-loop-again Inv-loop μ-loop
+loop-again c =
+    let t = c .before .before .before .before .before .before .before in
+    let s = t .before .before .before .before .before in
+    rows-turn (s .args .records .now) (s .args .names .now) (t .before .first-slots .last .1 .1 .1 .0) (s .args .next) _ (t .before .first-slots .ensures) (s .pre .1) _ _ _ (t .loop .inv) (omega arith) _ _ (c .before .before .write-row .ensures)
+
+returns : tie.Need-returns Inv-loop μ-loop
+returns c =
+    let t = c .before .before in
+    let s = t .before .before .before .before in
+    rows-end (s .args .records .now) (s .args .names .now) (t .first-slots .last .1 .1 .1 .0) (s .args .next) _ (t .first-slots .ensures) (s .pre .1) _ _ _ (c .before .loop .inv) (omega arith)
 
 pub fill-rows-spec : {M : Type 1} → statement M
-fill-rows-spec =
-    tie.close (tie.spec (λ c. search needs) number-requires (λ c. search needs) (λ c κs. search needs) (λ c. search needs) (λ c. search needs) write-rows-requires (λ c. search needs) (λ c. search needs))
+fill-rows-spec = tie.close (tie.spec Inv-loop μ-loop first-slots-requires (λ c. pieces-start) write-row-requires (λ c. search needs) (λ c. search needs) loop-again (λ c. c .before .loop .inv .long) returns)

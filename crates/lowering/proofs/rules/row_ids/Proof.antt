@@ -1,54 +1,58 @@
--- `lowering::rules::row_ids` meets its contract: the entry has as many labels as its kind, and after q turns the ids of the first q are in their places. Assumes nothing.
+-- `lowering::rules::row_ids` meets its contract: after q turns the ids of the first q names are in their places. Assumes nothing.
 use native.Mathlib.Omega.{arith}
+use Prim.Native.Nat.{_+_, _*_, _-_, _<_}
+use mathlib.Core.Path.{_≡_, _∙_}
+use lib.ListN.{length}
+use Rattle.ground.proofs.UpTo.{length-up-to}
+use Rattle.record.specs.Kinds.{kindAt}
+use Rattle.drawing.proofs.Laws.{labels-read, four-labels}
+use Rattle.lowering.specs.Steps.{namesAt, firstAt}
+use Rattle.lowering.proofs.rows.Filling.{pieces-start, span-read, Naming, name-fits, named-turn, named-end}
 use borrow.Author.Needs.{needs}
-use mathlib.Core.Path.{sym, _∙_}
-use Prim.Native.Nat.{_-_}
-use Rattle.record.specs.Entry.{entryAt}
-use Rattle.index.specs.Labels.{drawn}
-use Rattle.index.proofs.Drawn.{drawn-label}
-use Rattle.lowering.specs.Steps.{labelIds}
-use Rattle.lowering.proofs.rows.Filling.{Told, told, Pieces, pieces-start, pieces-turn, pieces-end, addable, naming-read}
 use Rattle.lowering.proofs.rules.row_ids.Statement.{statement}
-use mathlib.Core.List.{[]}
 use Rattle.lowering.proofs.rules.row_ids.Tie as tie
 
 abbrev Inv-loop : tie.InvT-loop
-Inv-loop kinds text records chains numbers l ids i out₀ kind third n m₀ q₀ out m q =
-    let e = entryAt (drawn text records) i in
-    Told e kind third n × Pieces (labelIds (drawn text records) l ids e) (e .labels) out₀ m out q
+Inv-loop kinds names firsts next kind third i out₀ n m₀ q₀ out m q = Naming (firstAt firsts) next kind third (namesAt names kind i) out₀ m out q
 
 abbrev μ-loop : tie.MeasureT-loop
-μ-loop kinds text records chains numbers l ids i out₀ kind third n m₀ q₀ out m q = n - q
+μ-loop kinds names firsts next kind third i out₀ n m₀ q₀ out m q = n - q
 
-loop-holds : tie.Need-loop-holds Inv-loop μ-loop
-loop-holds c =
-    let s = c .before .before .before .before .before .before .before .before in
-    let a = s .args in
-    (told (a .text .now) (a .records .now) (a .i) _ (c .before .decode-record .ensures) (a .kinds .now) (s .pre .0) (s .pre .2) _ (c .look .ensures), pieces-start)
+-- how many labels there are
+labels : (c : tie.After-look Inv-loop μ-loop) → c .look .result ≡ kindAt (c .before .args .kind) .labels
+labels c = labels-read (c .before .args .kinds .now) (c .before .pre .0) (c .before .args .kind) _ (c .look .ensures)
 
-add-label-requires : tie.Need-add-label-requires Inv-loop μ-loop
-add-label-requires c κs =
-    let s = c .before .before .before .before .before .before .before .before .before .before .before .before .before in
-    let a = s .args in
-    let (t, p) = c .before .before .before .before .loop .inv in
-    let naming = naming-read (s .pre .0) (s .pre .2) t (omega (arith, t .count-is)) (c .before .before .look2 .ensures) in
-    let name = c .before .label-at .ensures .is ∙ sym (drawn-label (a .text .now) (a .records .now) (a .i) _) in
-    (s .pre .1, rw (naming, t .third-is, name) (addable (s .pre .2) (s .pre .3) (omega (arith, t .count-is)) p))
+-- one of them is meant
+one-of-them : (c : tie.In-loop Inv-loop μ-loop) → c .before .loop .q < kindAt (c .before .before .before .args .kind) .labels
+one-of-them c = omega (arith, labels (c .before .before))
+
+inside : (c : tie.In-loop Inv-loop μ-loop) → c .before .loop .q < length (namesAt (c .before .before .before .args .names .now) (c .before .before .before .args .kind) (c .before .before .before .args .i))
+inside c = rw (length-up-to (kindAt (c .before .before .before .args .kind) .labels) _) (one-of-them c)
+
+-- its name has a place in the table
+place-inside : (c : tie.In-loop Inv-loop μ-loop) → c .before .before .before .args .i * 4 + c .before .loop .q < 7200
+place-inside c = let s = c .before .before .before in omega (arith, s .pre .1, one-of-them c, four-labels (s .args .kind))
+
+add-name-requires : tie.Need-add-name-requires Inv-loop μ-loop
+add-name-requires c κs =
+    let t = c .before .before .before in
+    let s = t .before .before .before in
+    let p = t .before .loop .inv in
+    rw (span-read (s .args .kinds .now) (s .args .names .now) (s .args .kind) (s .args .third) (s .args .i) (t .before .loop .q) _ (s .pre .0) (one-of-them t) (c .before .before .look2 .ensures))
+    (p .long ∙ s .pre .3, s .pre .2 .each (t .before .loop .q) (inside t), name-fits (s .pre .2) (s .pre .3) p (inside t))
 
 loop-again : tie.Need-loop-again Inv-loop μ-loop
 loop-again c =
-    let s = c .before .before .before .before .before .before .before .before .before .before .before .before .before .before .before .before in
-    let a = s .args in
-    let (t, p) = c .before .before .before .before .before .before .before .loop .inv in
-    let naming = naming-read (s .pre .0) (s .pre .2) t (omega (arith, t .count-is)) (c .before .before .before .before .before .look2 .ensures) in
-    let name = c .before .before .before .before .label-at .ensures .is ∙ sym (drawn-label (a .text .now) (a .records .now) (a .i) _) in
-    let add = c .before .before .add-label in
-    (t, pieces-turn p [] (omega (arith, t .count-is)) _ _ (add .kept .1 .1 .1 .1 .1 .1 .1 .1 .1 .0) (rw (naming, t .third-is, name) at (add .ensures)))
+    let t = c .before .before .before .before in
+    let s = t .before .before .before in
+    named-turn (s .pre .2) (s .pre .3) (t .before .loop .inv) (inside t) _ _
+    (rw (span-read (s .args .kinds .now) (s .args .names .now) (s .args .kind) (s .args .third) (s .args .i) (t .before .loop .q) _ (s .pre .0) (one-of-them t) (c .before .before .before .look2 .ensures)) at (c .add-name .ensures))
 
 returns : tie.Need-returns Inv-loop μ-loop
-returns c = pieces-end (c .before .loop .inv .1) (omega (arith, c .before .loop .inv .0 .count-is))
+returns c =
+    let s = c .before .before .before in
+    named-end (s .pre .2) (s .pre .3) (c .before .loop .inv) (rw (length-up-to (kindAt (s .args .kind) .labels) _) (omega (arith, labels (c .before .before))))
 
 pub row-ids-spec : {M : Type 1} → statement M
-row-ids-spec =
-    tie.close (tie.spec Inv-loop μ-loop (λ c κs. search needs) (λ c κs. search needs) (λ c. search needs) loop-holds (λ c. search needs) (λ c κs. search needs) (λ c κs. search needs)
-    add-label-requires (λ c. search needs) (λ c. search needs) loop-again (λ c. c .before .loop .inv .1 .long) returns)
+row-ids-spec = tie.close (tie.spec Inv-loop μ-loop (λ c κs. search needs) (λ c. search needs) (λ c. pieces-start) (λ c. search needs) (λ c κs. search needs) (λ c. omega (arith, place-inside (c .before)))
+    (λ c. omega (arith, place-inside (c .before))) (λ c. omega (arith, place-inside (c .before))) (λ c. place-inside (c .before)) add-name-requires (λ c. search needs) (λ c. search needs) loop-again returns)

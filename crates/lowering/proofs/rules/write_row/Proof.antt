@@ -1,8 +1,5 @@
 -- `lowering::rules::write_row` meets its contract: one row, or none. Assumes nothing.
-use native.Mathlib.Omega.{arith}
-use mathlib.Core.Path.{sym, _∙_}
-use Rattle.index.proofs.Drawn.{drawn-kind}
-use Rattle.index.proofs.Laws.{says-within}
+use Rattle.names.proofs.Laws.{says-within}
 use Rattle.record.specs.Kinds.{firstRule, lastRule}
 use Rattle.lowering.proofs.rows.Filling.{wrote-none, wrote-row}
 use borrow.Author.Needs.{needs}
@@ -11,26 +8,14 @@ use Rattle.lowering.proofs.rules.write_row.Tie as tie
 
 row-at-requires : tie.Need-row-at-requires
 row-at-requires c κs =
-    let s = c .before .before .before .before .before .before .before .before in
-    let k = c .before .kind-at .ensures ∙ sym (drawn-kind (s .args .text .now) (s .args .records .now) (s .args .i)) in
-    (s .pre .0, s .pre .1, s .pre .2 .sayable (says-within firstRule lastRule _ .so (rw k at (c .if1 .taken))))
-
-add-result : tie.Need-add-result
-add-result c =
-    let s = c .before .before .before .before .before .before .before .before .before .before .before .before .before .before in
-    omega (arith, s .pre .2 .room, s .good .1 .1 .1 .1 .1 .1 .1 .1 .1 .0 .1)
+    let s = c .before .before .before .before in
+    (s .pre .0, s .pre .1, s .pre .2 .sayable (says-within firstRule lastRule _ .so (rw (c .before .kind-at .ensures) at (c .if1 .taken))))
 
 returns : tie.Need-returns
-returns c =
-    let s = c .before .before .before .before .before .before .before .before .before .before .before .before .before .before in
-    let k = c .before .before .before .before .before .before .before .kind-at .ensures ∙ sym (drawn-kind (s .args .text .now) (s .args .records .now) (s .args .i)) in
-    wrote-row (s .pre .2) (rw k at (c .before .before .before .before .before .before .if1 .taken)) _ _ _ (c .before .before .before .before .before .row-at .ensures) (c .before .before .put .ensures)
+returns c = wrote-row (c .before .before .before .before .before .before .before .before .before .before .pre .2) (rw (c .before .before .before .before .before .before .before .kind-at .ensures) at (c .before .before .before .before .before .before .if1 .taken)) _ _ _ (c .before .before .before .before .before .row-at .ensures) (c .before .before .put .ensures)
 
 returns-2 : tie.Need-returns-2
-returns-2 c =
-    let s = c .before .before .before .before .before .before .before .before in
-    wrote-none (s .pre .2) (rw (c .before .kind-at .ensures ∙ sym (drawn-kind (s .args .text .now) (s .args .records .now) (s .args .i))) at (c .if1 .left))
+returns-2 c = wrote-none (c .before .before .before .before .pre .2) (rw (c .before .kind-at .ensures) at (c .if1 .left))
 
 pub write-row-spec : {M : Type 1} → statement M
-write-row-spec =
-    tie.close (tie.spec (λ c κs. search needs) row-at-requires (λ c. search needs) (λ c κs. search needs) add-result (λ c. search needs) returns returns-2)
+write-row-spec = tie.close (tie.spec (λ c κs. search needs) row-at-requires (λ c. search needs) (λ c κs. search needs) (λ c. search needs) (λ c. search needs) returns returns-2)

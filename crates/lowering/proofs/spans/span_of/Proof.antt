@@ -1,27 +1,25 @@
--- `lowering::spans::span_of` meets its contract, by the code of the label's place. Assumes nothing.
-use Rattle.record.specs.Kinds.{assigned, a-round}
-use Rattle.lowering.specs.Steps.{spanOf}
+-- `lowering::spans::span_of` meets its contract: by the code of the place. Assumes nothing.
+use mathlib.Core.Path.{refl}
 use native.Mathlib.Omega.{arith}
-use borrow.Author.Tests.{eq-eqb, ne-eqb}
+use lib.Dec.{eqb}
+use Rattle.ground.proofs.Lists.{either-le}
+use Rattle.lowering.specs.Sketch.{kindBy, spanBy}
 use borrow.Author.Needs.{needs}
 use Rattle.lowering.proofs.spans.span_of.Statement.{statement}
 use Rattle.lowering.proofs.spans.span_of.Tie as tie
 
+add-t15 : tie.Need-add-t15
+add-t15 c =
+    let a = c .before .before .before .args in
+    omega (arith, c .either2 .ensures, c .before .either .ensures, either-le (eqb (kindBy (a .name)) 3) 4 0 4 (omega arith) (omega arith), either-le (eqb (a .third) 2) 1 0 1 (omega arith) (omega arith))
+
 returns : tie.Need-returns
-unfolding spanOf
-returns c = rw (eq-eqb (c .before .before .before .before .before .before .args .code) assigned (omega arith)) (c .part-span .ensures)
+unfolding spanBy
+returns c = rw (c .before .before .if1 .taken, c .before .either .ensures, c .either2 .ensures) refl
 
 returns-2 : tie.Need-returns-2
-unfolding spanOf
-returns-2 c =
-    let a = c .before .before .before .before .before .before .args in
-    rw (ne-eqb (a .code) assigned (λ e. omega arith), eq-eqb (a .code) a-round (omega arith)) (c .center-span .ensures)
-
-returns-3 : tie.Need-returns-3
-unfolding spanOf
-returns-3 c =
-    let a = c .before .before .before .before .before .before .args in
-    rw (ne-eqb (a .code) assigned (c .before .match .rest .0 .1), ne-eqb (a .code) a-round (c .before .match .rest .1)) (c .whole-span .ensures)
+unfolding spanBy
+returns-2 c = rw (c .before .if1 .left, c .size-by .ensures) refl
 
 pub span-of-spec : {M : Type 1} → statement M
-span-of-spec = tie.close (tie.spec (λ c κs. search needs) (λ c κs. search needs) (λ c κs. search needs) returns returns-2 returns-3)
+span-of-spec = tie.close (tie.spec (λ c. search needs) (λ c κs. search needs) (λ c κs. search needs) add-t15 returns (λ c κs. search needs) returns-2)

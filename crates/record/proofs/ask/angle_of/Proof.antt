@@ -30,5 +30,4 @@ returns-2 c =
     ap asked.Angle (c .angle-in .ensures ∙ ap angleIn (c .before .fields .ensures)) ∙ some-angle _ _ (is-angle (c .before .before))
 
 pub angle-of-spec : {M : Type 1} → statement M
-angle-of-spec = tie.close (tie.spec (λ c κs. search needs) (λ c κs. search needs) (λ c κs. search needs) returns (λ c κs. angle-good _ _ (is-angle c) .framed .whole)
-    (λ c κs. search needs) returns-2)
+angle-of-spec = tie.close (tie.spec (λ c κs. search needs) (λ c κs. search needs) (λ c κs. search needs) returns (λ c κs. angle-good _ _ (is-angle c) .framed .whole) (λ c κs. search needs) returns-2)

@@ -6,5 +6,4 @@ use Rattle.record.proofs.decode.guess_fields.Tie as tie
 
 pub guess-fields-spec : {M : Type 1} → statement M
 unfolding decode
-guess-fields-spec = tie.close (tie.spec (λ c κs. search needs) (λ c. search needs) (λ c. search needs) (λ c. search needs) (λ c κs. search needs) (λ c κs. search needs)
-    (λ c. rw (c .before .before .before .before .before .before .before .pre .1) (cc)))
+guess-fields-spec = tie.close (tie.spec (λ c κs. search needs) (λ c. search needs) (λ c. search needs) (λ c. search needs) (λ c κs. search needs) (λ c κs. search needs) (λ c. rw (c .before .before .before .before .before .before .before .pre .1) (cc)))

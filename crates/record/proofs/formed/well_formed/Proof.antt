@@ -10,12 +10,12 @@ use Rattle.record.specs.Decode.{recordOf}
 use Rattle.record.specs.Formed.{entries}
 use Rattle.record.proofs.Back.{part-is}
 use Rattle.record.proofs.Entries.{over}
-use Rattle.record.proofs.Passed.{Passed, start, fault, more, end-fault, end-good}
+use Rattle.record.proofs.Passed.{PassedIn, start, fault, more, end-fault, end-good}
 use Rattle.record.proofs.formed.well_formed.Statement.{statement}
 use Rattle.record.proofs.formed.well_formed.Tie as tie
 
 abbrev Inv-loop : tie.InvT-loop
-Inv-loop text records n kinds guessed₀ i₀ guessed i = (i ≤ n) × Passed (entries text records) i guessed
+Inv-loop text records n kinds guessed₀ i₀ guessed i = (i ≤ n) × PassedIn (entries text records) i guessed
 
 abbrev μ-loop : tie.MeasureT-loop
 μ-loop text records n kinds guessed₀ i₀ guessed i = n - i
@@ -61,4 +61,4 @@ returns-5 c =
     end-good (a .text .now) (a .records .now) (omega arith) (omega arith) _ _ (c .before .before .loop .inv .1) (omega arith) (c .if4 .left)
 
 pub well-formed-spec : {M : Type 1} → statement M
-well-formed-spec = tie.close (tie.spec Inv-loop μ-loop (λ c κs. search needs) returns (λ c κs. search needs) returns-2 (λ c. (omega arith, start _)) (λ c. omega arith) (λ c. omega arith) (λ c. omega arith) (λ c. omega arith) (λ c. omega arith) (λ c κs. search needs) (λ c κs. search needs) (λ c κs. search needs) returns-3 (λ c. omega arith) (λ c. omega arith) loop-again (λ c κs. search needs) returns-4 returns-5)
+well-formed-spec = tie.close (tie.spec Inv-loop μ-loop (λ c κs. search needs) returns (λ c κs. search needs) returns-2 (λ c. (omega arith, start _ _)) (λ c. omega arith) (λ c. omega arith) (λ c. omega arith) (λ c. omega arith) (λ c. omega arith) (λ c κs. search needs) (λ c κs. search needs) (λ c κs. search needs) returns-3 (λ c. omega arith) (λ c. omega arith) loop-again (λ c κs. search needs) returns-4 returns-5)

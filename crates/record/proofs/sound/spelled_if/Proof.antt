@@ -14,5 +14,4 @@ returns-2 c =
     rw (not-false (a .used) (c .before .before .before .if1 .left), ← e) (c .spelled .ensures)
 
 pub spelled-if-spec : {M : Type 1} → statement M
-spelled-if-spec = tie.close (tie.spec (λ c. search needs) (λ c. omega (arith, c .before .before .before .pre (not-false _ (c .before .if1 .left))))
-    (λ c. search needs) (λ c. search needs) (λ c. omega (arith, c .before .before .before .pre (not-false _ (c .before .if1 .left)))) (λ c κs. search needs) returns-2)
+spelled-if-spec = tie.close (tie.spec (λ c. search needs) (λ c. omega (arith, c .before .before .before .pre (not-false _ (c .before .if1 .left)))) (λ c. search needs) (λ c. search needs) (λ c. omega (arith, c .before .before .before .pre (not-false _ (c .before .if1 .left)))) (λ c κs. search needs) returns-2)

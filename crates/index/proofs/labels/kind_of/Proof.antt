@@ -1,8 +1,0 @@
--- `index::labels::kind_of` meets its contract: the kind is a record's second byte. Assumes nothing.
-use borrow.Author.Needs.{needs}
-use Rattle.index.proofs.Drawn.{kind-here}
-use Rattle.index.proofs.labels.kind_of.Statement.{statement}
-use Rattle.index.proofs.labels.kind_of.Tie as tie
-
-pub kind-of-spec : {M : Type 1} → statement M
-kind-of-spec = tie.close (tie.spec (λ c. search needs) (λ c. search needs) (λ c. search needs) (λ c. kind-here _ _ (search needs)))

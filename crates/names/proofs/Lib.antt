@@ -1,0 +1,9 @@
+pub mod Laws
+pub mod Drawn
+pub mod First
+pub mod Cut
+pub mod Names
+pub mod Links
+pub mod Tables
+pub mod Only
+pub mod Examples

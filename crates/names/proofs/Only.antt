@@ -1,0 +1,18 @@
+-- The promise of each public function, as its source states it, determines the answer, and what the tables hold at last: each is made
+-- of equations. Assumes nothing.
+use borrow.Fn.Kinds.{endedOf}
+use Rattle.ground.proofs.Determined.{Determined, Settled, by-equation}
+use Rattle.names.proofs.labels.kind_at.Kinds as kind-at-kinds
+use Rattle.names.proofs.labels.kind_at.Reads as kind-at
+use Rattle.names.proofs.resolve.Kinds as resolve-kinds
+use Rattle.names.proofs.resolve.Reads as resolve
+
+pub kind-at-only : Determined 1 kind-at-kinds.ps kind-at-kinds.r kind-at.Post
+kind-at-only κs a x y e f p q = by-equation p q
+
+-- the tables are the last two of four parameters
+pub resolve-only : Settled (endedOf 4 resolve-kinds.ps resolve-kinds.r) resolve.Post
+resolve-only κs a x y v w p q = (
+  by-equation (p .told) (q .told),
+  λ j. (tt, (tt, (by-equation (p .names-are) (q .names-are) j, (by-equation (p .guesses-are) (q .guesses-are) j, tt)))),
+)

@@ -1,0 +1,5 @@
+pub mod Labels
+pub mod Cut
+pub mod Chains
+pub mod Names
+pub mod Steps

@@ -1,0 +1,80 @@
+-- One pass over the places tells what the faults in their order, each over all places, tell. Assumes nothing.
+use mathlib.Core.Path.{_≡_, refl, sym, ap, _∙_}
+use mathlib.Core.Logic.{⊎-elim}
+use mathlib.Core.Bool.{Bool, true, false, cond}
+use mathlib.Core.Option.{Option, none, some}
+use mathlib.Core.List.{List, [], _∷_}
+use Prim.Native.Nat.{ℕ, zero, suc}
+use native.Mathlib.Nat.{not-suc-le-zero}
+use native.Mathlib.Omega.{arith}
+use lib.Dec.{ltb}
+use lib.ListN.{length}
+use borrow.Author.Tests.{lt-ltb, le-ltb}
+use Rattle.refusal.specs.First.{EachBelow, Answer, orElse, lowest, tell, first}
+use Rattle.refusal.proofs.Says.{says-lt, says-iff, says-once, below-suc}
+use Rattle.refusal.specs.Worst.{rankAt, Worst, worse, worst, ranked}
+
+-- the same with every rank one more
+abbrev bump : Worst → Worst
+bump w = record { rank = suc (w .rank); place = w .place }
+
+lt-suc : (a b : ℕ) → ltb (suc a) (suc b) ≡ ltb a b
+lt-suc a b = says-once (says-lt (suc a) (suc b)) (says-iff (λ h. omega (arith, h)) (λ h. omega (arith, h)) (says-lt a b))
+
+bump-cond : (t : Bool) (r i : ℕ) (w : Worst) → cond t (record { rank = suc r; place = i }) (bump w) ≡ bump (cond t (record { rank = r; place = i }) w)
+bump-cond true r i w = refl
+bump-cond false r i w = refl
+
+bump-worse : (r i : ℕ) (w : Worst) → worse (suc r) i (bump w) ≡ bump (worse r i w)
+bump-worse r i w = rw (lt-suc r (w .rank)) (bump-cond (ltb r (w .rank)) r i w)
+
+-- where the first fault holds nowhere
+bumped : (top : ℕ) (p : ℕ → Bool) (ranks : ℕ → ℕ) (n : ℕ) → EachBelow n (λ j. p j ≡ false) → worst (suc top) (λ i. cond (p i) 0 (suc (ranks i))) n ≡ bump (worst top ranks n)
+bumped top p ranks zero f = refl
+bumped top p ranks (suc n) f =
+    rw (f n (omega arith), bumped top p ranks n (λ j h. f j (omega (arith, h)))) (bump-worse (ranks n) n (worst top ranks n))
+
+-- the search, one place more
+module _ (top : ℕ) (p : ℕ → Bool) (ranks : ℕ → ℕ) where
+  abbrev zero-at : ℕ → Worst
+  zero-at i = record { rank = 0; place = i }
+
+  kept : (r i k : ℕ) → worse r i (zero-at k) ≡ zero-at k
+  kept r i k = rw (le-ltb r 0 (omega arith))
+
+  new : (i : ℕ) (w : Worst) → worse 0 i (bump w) ≡ zero-at i
+  new i w = rw (lt-ltb 0 (suc (w .rank)) (omega arith))
+
+  abbrev with-first : ℕ → ℕ
+  with-first i = cond (p i) 0 (suc (ranks i))
+
+  -- where the search has found a place, the least rank is 0 and stands there
+  abbrev Shown : ℕ → Option ℕ → Type 0
+  Shown n (some i) = worst (suc top) with-first n ≡ zero-at i
+  Shown n none = EachBelow n (λ j. p j ≡ false)
+
+  shown-next : (n : ℕ) (o : Option ℕ) (b : Bool) → p n ≡ b → Shown n o → Shown (suc n) (orElse o (cond b (some n) none))
+  shown-next n (some i) b e h = rw h (kept (with-first n) n i)
+  shown-next n none true e f = rw (e, bumped top p ranks n f) (new n (worst top ranks n))
+  shown-next n none false e f = λ j h. ⊎-elim (λ k. ap p k ∙ e) (λ l. f j l) (below-suc h)
+
+  shown : (n : ℕ) → Shown n (lowest n p)
+  unfolding lowest
+  shown zero = λ j h. absurd (not-suc-le-zero h)
+  shown (suc n) = shown-next n (lowest n p) (p n) refl (shown n)
+
+module _ {F : Type 0} (test : F → ℕ → Bool) (n : ℕ) where
+  -- what one pass tells
+  abbrev passes : List F → Answer F
+  passes order = let w = worst (length order) (rankAt order test) n in ranked order (w .rank) (w .place)
+
+  tell-one : (f : F) (order : List F) (o : Option ℕ) → Shown (length order) (test f) (rankAt order test) n o → first order test n ≡ passes order
+      → tell f o (first order test n) ≡ passes (f ∷ order)
+  tell-one f order (some i) h e = sym (ap (λ (w : Worst). ranked (f ∷ order) (w .rank) (w .place)) h)
+  tell-one f order none h e = e ∙ sym (ap (λ (w : Worst). ranked (f ∷ order) (w .rank) (w .place)) (bumped (length order) (test f) (rankAt order test) n h))
+
+  -- THE law
+  pub by-places : (order : List F) → first order test n ≡ passes order
+  unfolding first
+  by-places [] = refl
+  by-places (f ∷ order) = tell-one f order (lowest n (test f)) (shown (length order) (test f) (rankAt order test) n) (by-places order)
