@@ -1,4 +1,5 @@
--- Where no label is declared twice, a label's name says what the label says: which record declares its shape, and which part it is. Assumes nothing.
+-- Where no label is declared twice and no declared label has a point, a label's name says what the label says: which record declares its
+-- shape, and which part it is. Assumes nothing.
 use mathlib.Core.Path.{_≡_, refl, sym, ap, _∙_}
 use mathlib.Core.Bool.{Bool, _&&_}
 use mathlib.Core.List.{List, _++_}

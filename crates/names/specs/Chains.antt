@@ -1,5 +1,5 @@
 -- Chains of declarations by the hash of their labels: for each hash the first entry that has it, and for each entry the next one. The
--- number of entries stands for none.
+-- number of entries stands for none. Only contracts of private functions speak of them: they need not be read.
 use mathlib.Core.Path.{_≡_}
 use mathlib.Core.Bool.{Bool, true, _&&_, cond}
 use mathlib.Core.List.{List, [], _∷_}

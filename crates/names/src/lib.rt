@@ -1,5 +1,6 @@
 // Names: for each label of each record one number, the declaring record with its kind and the part behind the first point, and for each
-// part of each declaration the lowest record that guesses it. Check and lowering go by these numbers, and look at no text.
+// part of each declaration the lowest record that guesses it. Behind 30, check and lowering go by these
+// numbers, and look at no text.
 mod chains;
 pub mod labels;
 mod pieces;
