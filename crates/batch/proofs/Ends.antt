@@ -1,6 +1,6 @@
 -- The laws of lines: an end lies inside the text, and a number with one byte more. Assumes nothing.
 use mathlib.Core.Path.{_≡_, refl}
-use mathlib.Core.Bool.{Bool, true, false, not, cond}
+use mathlib.Core.Bool.{not}
 use mathlib.Core.List.{List}
 use Prim.Native.Nat.{ℕ, _+_, _-_, _≤_, _<_}
 use native.Mathlib.Numerals.{add-one}
@@ -9,6 +9,7 @@ use native.Mathlib.Decide.{decLe}
 use lib.Dec.{eqb}
 use lib.ListN.{length, getD, drop, drop-of-length-le}
 use lib.Seq.{drop-cons}
+use Rattle.ground.proofs.Lists.{either-le}
 use Rattle.text.proofs.Laws.{runTo-ahead, runTo-end}
 use Rattle.text.proofs.Within.{runTo-inside}
 use Rattle.batch.specs.Line.{untilOf, Until, wordAfter, oneDigit, numberFrom}
@@ -19,16 +20,12 @@ is-until s at b r e = rw (← e) (record { place = refl; ahead = runTo-ahead _ s
   where
     inside : Dec (at ≤ length s) → untilOf s at b ≤ at + (length s - at)
     inside (yes h) = omega (arith, runTo-inside (λ x. not (eqb x b)) s at h)
-    inside (no h) = omega (arith, h, runTo-end (λ x. not (eqb x b)) s at (omega (arith, h)))
+    inside (no h) = omega (arith, runTo-end (λ x. not (eqb x b)) s at (omega arith))
 
 -- a byte moves on by at most a word
 pub word-le : (word i b r : ℕ) → r ≡ wordAfter word b → word ≤ i → r ≤ i + 1
 unfolding wordAfter
-word-le word i b r e h = rw e (go (eqb b 32))
-  where
-    go : (t : Bool) → cond t (word + 1) word ≤ i + 1
-    go true = omega arith
-    go false = omega arith
+word-le word i b r e h = rw e (either-le (eqb b 32) (word + 1) word (i + 1) (omega arith) (omega arith))
 
 module _ (s : List ℕ) (k word n i : ℕ) where
   pub number-more : i < length s

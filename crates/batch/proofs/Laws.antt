@@ -11,34 +11,29 @@ use native.Mathlib.Omega.{arith}
 use lib.ListN.{length, getD, drop, drop-of-length-le}
 use lib.Seq.{drop-cons}
 use Rattle.text.specs.declared.Stand.{Stand}
-use Rattle.text.specs.declared.Stand.the-variants.{At, Nothing, Refused}
+use Rattle.text.specs.declared.Stand.the-variants.{At, Nothing}
 use Rattle.text.specs.Text.{starts, wordAt, wordOn}
 use Rattle.text.proofs.Stand.{the-type}
 use Rattle.batch.specs.Header.{oneMore, sizeAfter}
 
 -- ---- words
 
-never : _≡_ {A = ℕ} 0 1 → ⊥
-never e = omega arith
-
-place-told : (t : Bool) (k n : ℕ) → At n ≡ cond t (At k) Nothing → true ≡ t
-place-told true k n e = refl
-place-told false k n e = absurd (never (cc))
-
-none-told : (t : Bool) (k : ℕ) (x : Stand) → x ≡ cond t (At k) Nothing → OneOf (1 ∷ 2 ∷ []) (tagOf the-type x) → false ≡ t
-none-told false k x e h = refl
-none-told true k (At n) e h = absurd (⊎-elim (λ (z : 0 ≡ 1). omega arith) (λ (z : 0 ≡ 2). omega arith) h)
-none-told true k Nothing e h = absurd (never (cc))
-none-told true k (Refused r) e h = absurd (never (cc))
-
 module _ (s w : List ℕ) (x : Stand) (e : x ≡ wordOn s (At 0) w) where
   pub word-stands : (n : ℕ) → x ≡ At n → true ≡ starts w s
   unfolding wordOn wordAt
-  word-stands n f = place-told (starts w s) (0 + length w) n (rw f at e)
+  word-stands n f = go (starts w s) e
+    where
+      go : (t : Bool) → x ≡ cond t (At (0 + length w)) Nothing → true ≡ t
+      go true g = refl
+      go false g = cc
 
   pub word-lacks : OneOf (1 ∷ 2 ∷ []) (tagOf the-type x) → false ≡ starts w s
   unfolding wordOn wordAt
-  word-lacks h = none-told (starts w s) (0 + length w) x e h
+  word-lacks h = go (starts w s) e
+    where
+      go : (t : Bool) → x ≡ cond t (At (0 + length w)) Nothing → false ≡ t
+      go false g = refl
+      go true g = absurd (⊎-elim (λ (z : 0 ≡ 1). omega arith) (λ (z : 0 ≡ 2). omega arith) (rw g at h))
 
 -- ---- numbers
 

@@ -66,10 +66,6 @@ value-number m (Over a) s = round-number binary64 s m (10 ^ a)
 
 -- ---- carried, or not
 module _ (m : ℕ) (k : Scale) (s : Bool) where
-  pub inside : fits m k ≡ true → carried m k s ≡ Bits (toBits binary64 (valueOf m k s))
-  unfolding carried
-  inside e = rw e
-
   pub outside : fits m k ≡ false → carried m k s ≡ Outside
   unfolding carried
   outside e = rw e
@@ -77,14 +73,11 @@ module _ (m : ℕ) (k : Scale) (s : Bool) where
   pub outside-big : limit ≤ m → carried m k s ≡ Outside
   outside-big h = outside (rw (le-ltb m limit h))
 
-  outside-far : power < powerOf k → carried m k s ≡ Outside
-  outside-far h = outside (rw (lt-leb (powerOf k) power h, and-false (ltb m limit)))
-
 pub outside-times : (m a : ℕ) (s : Bool) → power < a → carried m (Times a) s ≡ Outside
-outside-times m a s = outside-far m (Times a) s
+outside-times m a s h = outside m (Times a) s (rw (lt-leb a power h, and-false (ltb m limit)))
 
 pub outside-over : (m a : ℕ) (s : Bool) → power < a → carried m (Over a) s ≡ Outside
-outside-over m a s = outside-far m (Over a) s
+outside-over m a s h = outside m (Over a) s (rw (lt-leb a power h, and-false (ltb m limit)))
 
 -- ---- zero
 round-zero : (s : Bool) → toBits binary64 (round binary64 s 0 1) ≡ cond s (2 ^ 63) 0
@@ -98,4 +91,5 @@ value-zero (Times a) s = rw zero-mul
 value-zero (Over a) s = round-same binary64 s 0 (10 ^ a) 0 1 (ten-pos a) (zero-lt-suc 0) (rw (zero-mul 1, zero-mul (10 ^ a)))
 
 pub zero-keeps-sign : (k : Scale) (s : Bool) → powerOf k ≤ power → carried 0 k s ≡ Bits (cond s (2 ^ 63) 0)
-zero-keeps-sign k s h = inside 0 k s (rw (le-leb (powerOf k) power h)) ∙ ap Bits (ap (toBits binary64) (value-zero k s) ∙ round-zero s)
+unfolding carried
+zero-keeps-sign k s h = rw (le-leb (powerOf k) power h) (ap Bits (ap (toBits binary64) (value-zero k s) ∙ round-zero s))

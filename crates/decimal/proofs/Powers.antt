@@ -2,7 +2,7 @@
 use mathlib.Core.Path.{_≡_, refl}
 use mathlib.Core.Bool.{false}
 use Prim.Native.Nat.{ℕ, zero, suc, _+_, _*_, _^_, _≤_, _<_}
-use native.Mathlib.Nat.{mul-assoc, mul-mul-mul-comm, mul-one, mul-pos, pow-suc, pow-le-pow-right, lt-of-le-of-lt, lt-of-lt-of-le}
+use native.Mathlib.Nat.{mul-assoc, mul-mul-mul-comm, mul-one, one-le-pow, pow-suc, pow-le-pow-right, lt-of-le-of-lt, lt-of-lt-of-le}
 use native.Mathlib.Omega.{arith}
 use lib.Dec.{lit<}
 use lib.Pow.{pow-add, pow-mono, shl-lt}
@@ -12,8 +12,7 @@ use Rattle.decimal.specs.Decimal.{power, wholeNumber}
 
 -- ---- exact
 pub ten-pos : (a : ℕ) → 0 < 10 ^ a
-ten-pos zero = lit< tt
-ten-pos (suc a) = rw pow-suc (mul-pos (ten-pos a) (lit< tt))
+ten-pos a = one-le-pow a 10 (lit< tt)
 
 five-two : (a : ℕ) → 10 ^ a ≡ 5 ^ a * 2 ^ a
 five-two zero = refl
@@ -22,12 +21,10 @@ five-two (suc a) = rw (pow-suc 10 a, pow-suc 5 a, pow-suc 2 a, five-two a) (mul-
 few : (a : ℕ) → a ≤ power → 5 ^ a < 2 ^ 53
 few a h = lt-of-le-of-lt (pow-le-pow-right (lit< tt) h) (lit< {m = 5 ^ power} tt)
 
-fine : (a : ℕ) → a ≤ power → 53 + (a + 1074) ≤ 1074 + 1024
-fine a h = omega arith
-
 pub power-exact : (a : ℕ) → a ≤ power → HasValue (wholeNumber (10 ^ a)) false (10 ^ a) 1
 unfolding ofInt
 power-exact a h =
+    let fine : 53 + (a + 1074) ≤ 1074 + 1024 = omega arith in
     round-exact binary64 false (10 ^ a) 1 (5 ^ a) (a + 1074) (lit< tt) (few a h)
-    (lt-of-lt-of-le (shl-lt 53 (a + 1074) (few a h)) (pow-mono (fine a h)))
+    (lt-of-lt-of-le (shl-lt 53 (a + 1074) (few a h)) (pow-mono fine))
     (rw (mul-one, pow-add 2 a 1074, five-two a) (mul-assoc (5 ^ a) (2 ^ a) (2 ^ 1074)))

@@ -22,8 +22,4 @@ value-small m (Over a) s = toBits-lt binary64 (round binary64 s m (10 ^ a)) (rou
 
 pub carried-small : (m : ℕ) (k : Scale) (s : Bool) → Small (carried m k s)
 unfolding carried
-carried-small m k s = go (fits m k)
-  where
-    go : (t : Bool) → Small (cond t (Bits (toBits binary64 (valueOf m k s))) Outside)
-    go true = value-small m k s
-    go false = tt
+carried-small m k s = elim (fits m k) as (λ t. Small (cond t (Bits (toBits binary64 (valueOf m k s))) Outside)) [ true ↦ value-small m k s | false ↦ tt ]

@@ -1,33 +1,26 @@
 -- The count that bounds the lines of a section is always enough: a larger one reads the same lines. Assumes nothing.
 use mathlib.Core.Path.{_≡_, refl, ap}
-use mathlib.Core.Bool.{Bool, cond}
+use mathlib.Core.Bool.{Bool}
 use mathlib.Core.List.{List, [], _∷_}
 use Prim.Native.Nat.{ℕ, zero, suc, _+_, _≤_}
 use native.Mathlib.Omega.{arith}
-use lib.ListN.{length, drop, length-drop}
+use lib.ListN.{length, drop}
 use Rattle.text.specs.Text.{from, starts, wordAt, byteOn, newlineOn}
 use Rattle.text.specs.declared.Stand.{Stand}
 use Rattle.text.specs.declared.Stand.the-variants.{At, Nothing, Refused}
 use Rattle.text.proofs.Laws.{starts-short, cond-of}
-use Rattle.text.proofs.Within.{starts-length}
 use Rattle.forms.specs.Forms.{Lines, noLine, lineOn}
-use Rattle.forms.specs.Section.{followedBy, follow, restOf}
+use Rattle.forms.specs.Section.{followedBy, restOf}
 use Rattle.forms.proofs.Kept.{line-kept}
 use Rattle.forms.proofs.Stands.{In, kept-in}
 use Rattle.forms.proofs.Begin.{line-nowhere}
 
 module _ (s : List ℕ) where
-  -- ---- a line that follows ends further on, inside the text
+  -- ---- a line that follows ends further on
 
-  pub newline-in : (at : ℕ) → In s (at + 1) (newlineOn s (At at))
+  newline-in : (at : ℕ) → In (at + 1) (newlineOn s (At at))
   unfolding byteOn wordAt
-  newline-in at =
-      cond-of (In s (at + 1)) (starts (10 ∷ []) (drop at s)) (At (at + 1)) Nothing
-      (λ e. record { is = (omega arith, omega (arith, starts-length (10 ∷ []) (drop at s) e, length-drop at s)) }) (λ e. record { is = tt })
-
-  past-end : (g : Bool) (at : ℕ) → length s ≤ at → lineOn g s (newlineOn s (At at)) ≡ noLine Nothing
-  unfolding byteOn wordAt
-  past-end g at h = rw (starts-short (10 ∷ []) s 0 at (omega arith) h) (line-nowhere s g)
+  newline-in at = cond-of (In (at + 1)) (starts (10 ∷ []) (drop at s)) _ _ (λ e. record { is = omega arith }) (λ e. record { is = tt })
 
   -- ---- what follows by another count
 
@@ -38,24 +31,20 @@ module _ (s : List ℕ) where
 
   -- one line more than none makes no difference past the end
   none-past : (k : ℕ) (g : Bool) (at : ℕ) → length s ≤ at → restOf k g s at ≡ noLine (At at)
-  unfolding restOf
+  unfolding restOf byteOn wordAt
   none-past zero g at h = refl
-  none-past (suc k) g at h = rw (past-end g at h)
-
-  one-more : (m k : ℕ) (g : Bool) (at : ℕ) → ((next : ℕ) → In s (at + 1) (At next) → restOf (m + k) g s next ≡ restOf m g s next)
-      → restOf (suc (m + k)) g s at ≡ restOf (suc m) g s at
-  unfolding restOf
-  one-more m k g at e =
-      let l = lineOn g s (newlineOn s (At at)) in
-      same-from (l .then) _ _ _ (λ next i. ap (followedBy (l .records)) (e next (rw i at (line-kept (kept-in s (at + 1)) g (newline-in at)))))
+  none-past (suc k) g at h = rw (starts-short (10 ∷ []) s 0 at (omega arith) h, line-nowhere s g)
 
   enough : (m : ℕ) (g : Bool) (at k : ℕ) → length s ≤ at + m → restOf (m + k) g s at ≡ restOf m g s at
-  enough zero g at k h =
-      let e : 0 + k ≡ k = omega arith in
-      rw (e, none-past k g at (omega arith), none-past 0 g at (omega arith))
+  unfolding restOf
+  enough zero g at k h = let e : 0 + k ≡ k = omega arith in rw (e, none-past k g at (omega arith))
   enough (suc m) g at k h =
       let e : suc m + k ≡ suc (m + k) = omega arith in
-      rw e (one-more m k g at (λ next i. enough m g next k (omega (arith, i .is .0))))
+      let l = lineOn g s (newlineOn s (At at)) in
+      rw e (same-from (l .then) _ _ _
+      (λ next i.
+      let after : In (at + 1) (At next) = rw i at (line-kept (kept-in s (at + 1)) g (newline-in at)) in
+      ap (followedBy (l .records)) (enough m g next k (omega (arith, after .is)))))
 
 -- the text has as many bytes as lines may follow, and more make no difference
 pub always-enough : (s : List ℕ) (g : Bool) (at k : ℕ) → restOf (length s + k) g s at ≡ restOf (length s) g s at

@@ -1,17 +1,20 @@
 -- What spaces, words, bytes, labels and numbers keep of where reading stands, every form keeps: a form is made of them. Assumes nothing.
 use mathlib.Core.Path.{_≡_, refl}
-use mathlib.Core.Bool.{Bool, true, false, cond}
+use mathlib.Core.Bool.{Bool, true, false}
 use mathlib.Core.List.{List, [], _∷_}
 use Prim.Native.Nat.{ℕ}
 use lib.Dec.{eqb, ltb}
 use Rattle.ground.specs.Words.{bytes}
 use Rattle.ground.proofs.Lists.{and-first, and-second, all}
-use Rattle.text.specs.Text.{wsOn, wordOn, byteOn, labelOn, suffixedOn, dottedOn}
+use Rattle.text.specs.Text.{from, isSpace, noLabel, wsOn, wordOn, byteOn, labelOn, suffixedOn, dottedOn}
 use Rattle.text.specs.declared.Stand.{Stand}
 use Rattle.text.specs.declared.Stand.the-variants.{Nothing}
 use Rattle.text.specs.declared.ReadLabel.{ReadLabel}
-use Rattle.text.proofs.Laws.{from-of, either-of, cond-of}
-use Rattle.number.specs.Number.{numberOn, exprOn}
+use Rattle.text.proofs.Laws.{runTo-ahead, from-of, either-of, cond-of}
+use Rattle.text.proofs.Within.{Ahead, word-ahead, label-ahead}
+use Rattle.number.specs.Number.{noNumber, numberOn, depth, exprOn}
+use Rattle.number.specs.declared.Number.{Number}
+use Rattle.number.proofs.Within.{numberAt-read, exprAt-read}
 use Rattle.record.specs.Kinds.{newPoint, newCircle, newArc, fixComponent, fixCenter, kindAt, wordOf, numberless, number, expression}
 use Rattle.record.specs.Decode.{isGuess}
 use Rattle.record.specs.Sound.{fieldsTest}
@@ -28,6 +31,21 @@ pub record Kept (s : List ℕ) (P : Stand → Type 0) : Type 0 where
   pub label : {t : Stand} → P t → P (labelOn s t .then)
   pub number : {t : Stand} → P t → P (numberOn s t .then)
   pub expr : {t : Stand} → P t → P (exprOn s t .then)
+
+-- they do so where P is kept by all that is read from a place on and goes on from there
+pub kept-of : {s : List ℕ} {P : Stand → Type 0} → P Nothing → ((X : Type 0) (then : X → Stand) (t : Stand) (rest : X) (read : ℕ → X)
+    → ((n : ℕ) → Ahead n (then (read n))) → P (then rest) → P t → P (then (from t rest read))) → Kept s P
+unfolding wsOn wordOn byteOn labelOn numberOn exprOn
+kept-of {s} nothing on =
+    record {
+      nothing = nothing;
+      ws = λ {t} h. on Stand (λ u. u) t t _ (runTo-ahead isSpace s) h h;
+      word = λ {t} w h. on Stand (λ u. u) t t _ (word-ahead s w) h h;
+      byte = λ {t} b h. on Stand (λ u. u) t t _ (word-ahead s (b ∷ [])) h h;
+      label = λ {t} h. on ReadLabel (λ l. l .then) t (noLabel t) _ (label-ahead s) h h;
+      number = λ {t} h. on Number (λ n. n .then) t (noNumber t) _ (λ n. numberAt-read s n .ahead) h h;
+      expr = λ {t} h. on Number (λ n. n .then) t (noNumber t) _ (λ n. exprAt-read s depth n .ahead) h h;
+    }
 
 -- a kind that is declared by a plain label alone, as the table has it
 abbrev pub Declares : ℕ → Type 0
@@ -91,10 +109,6 @@ module _ {s : List ℕ} {P : Stand → Type 0} (k : Kept s P) where
 
   -- ---- forms, from behind their first word or label on
 
-  pub declare-kept : (t : Stand) (kind : ℕ) → P (wordOn s t (wordOf kind)) → P (declareOn s t kind .then)
-  unfolding declareOn
-  declare-kept t kind h = k .label (k .ws h)
-
   pub fixed-kept : (l : ReadLabel) (kind : ℕ) (between : List ℕ) → P (wordOn s (l .then) between) → P (fixedOn s l kind between .then)
   unfolding fixedOn
   fixed-kept l kind between h = k .number (around-kept 61 (side-kept (bytes "x") (bytes "y") h))
@@ -112,23 +126,15 @@ module _ {s : List ℕ} {P : Stand → Type 0} (k : Kept s P) where
 
   -- ---- lines
 
-  instruction-kept : {t : Stand} → P t → P (instructionOn s t .then)
-  instruction-kept {t} h =
+  pub line-kept : {t : Stand} (guess : Bool) → P t → P (lineOn guess s t .then)
+  unfolding declareOn guessOn guessedOn
+  line-kept {t} false h =
       let at = k .ws h in
       let f = k .label at in
-      instruction-of s (λ (l : Lines). P (l .then)) (k .nothing) t (λ kind e. declare-kept _ kind (k .word (wordOf kind) at))
+      instruction-of s (λ (l : Lines). P (l .then)) (k .nothing) t (λ kind e. k .label (k .ws (k .word (wordOf kind) at)))
       (fixed-kept _ fixComponent (bytes ".") (k .word (bytes ".") f)) (fixed-kept _ fixCenter (bytes ".center.") (k .word (bytes ".center.") f))
       (assign-kept _ (around-kept 61 (suffixed-kept _ f))) (λ kind. true) refl (λ kind e. keyword-kept _ kind (k .word (wordOf kind) at))
-
-  guessed-kept : {t : Stand} (l : ReadLabel) → P t → P (guessedOn s l t .then)
-  unfolding guessedOn
-  guessed-kept {t} l h = either-of (λ (m : Lines). P (m .then)) (pairOn s t .then) _ _ (pair-kept h) (k .number h)
-
-  pub guess-kept : {t : Stand} → P t → P (guessOn s t .then)
-  unfolding guessOn
-  guess-kept {t} h =
-      guessed-kept (dottedOn s (wsOn s t)) (k .ws (k .word (bytes "roughly") (k .ws (suffixed-kept (labelOn s (wsOn s t)) (k .label (k .ws h))))))
-
-  pub line-kept : {t : Stand} (guess : Bool) → P t → P (lineOn guess s t .then)
-  line-kept false h = instruction-kept h
-  line-kept true h = guess-kept h
+  line-kept {t} true h =
+      let l = dottedOn s (wsOn s t) in
+      let f = k .ws (k .word (bytes "roughly") (k .ws (suffixed-kept (labelOn s (wsOn s t)) (k .label (k .ws h))))) in
+      either-of (λ (m : Lines). P (m .then)) (pairOn s (wsOn s (wordOn s (wsOn s (l .then)) (bytes "roughly"))) .then) _ _ (pair-kept f) (k .number f)

@@ -14,9 +14,6 @@ module _ (s : List ℕ) (stand : Stand) (ks : List ℕ) (i : ℕ) where
   unfolding firstOf
   first-here h = rw (add-one, drop-cons ks i 0)
 
-  pub first-more : i < length ks → keywordOn s stand (getD ks i 0) .then ≡ Nothing → firstOf s stand (drop i ks) ≡ firstOf s stand (drop (i + 1) ks)
-  first-more h e = rw (first-here h, e)
-
   pub first-none : length ks ≤ i → firstOf s stand (drop i ks) ≡ noLine Nothing
   unfolding firstOf
   first-none h = rw (drop-of-length-le ks h)

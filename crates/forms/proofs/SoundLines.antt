@@ -1,7 +1,7 @@
 -- Each record of a line that was read is sound over the text: its form gives it a known kind, the labels, the third byte and the numbers
 -- that the table has for that kind, and each label was read out of the text. Assumes nothing.
-use mathlib.Core.Path.{_≡_, refl, sym}
-use mathlib.Core.Bool.{Bool, true, false, not, cond, _&&_, true≢false}
+use mathlib.Core.Path.{_≡_, refl}
+use mathlib.Core.Bool.{Bool, true, false, not, cond, _&&_}
 use mathlib.Core.List.{List, [], _∷_}
 use Prim.Native.Nat.{ℕ, _+_, _^_, _≤_, _<_}
 use native.Mathlib.Omega.{arith}
@@ -9,7 +9,7 @@ use lib.Dec.{leb, eqb, ltb, lit<}
 use lib.ListN.{length}
 use borrow.Author.Tests.{not-true, lt-ltb, le-ltb, lt-leb}
 use Rattle.ground.specs.Words.{bytes}
-use Rattle.ground.proofs.Lists.{and-first, all}
+use Rattle.ground.proofs.Lists.{and-first}
 use Rattle.ground.proofs.Pieces.{Each}
 use Rattle.refusal.specs.First.{EachBelow}
 use Rattle.refusal.proofs.Says.{says-so, says-and, says-le, says-lt}
@@ -19,8 +19,8 @@ use Rattle.text.specs.declared.Stand.the-variants.{At, Nothing, Refused}
 use Rattle.text.specs.declared.ReadLabel.{ReadLabel}
 use Rattle.text.proofs.Laws.{Reached, here, either-of, cond-of}
 use Rattle.number.specs.Number.{numberOn}
-use Rattle.number.proofs.Within.{number-read, expr-read}
-use Rattle.record.specs.Kinds.{fixComponent, fixCenter, pairGuess, numberGuess, kindAt, wordOf, numberless, number, expression, either}
+use Rattle.number.proofs.Within.{number-fits, expr-fits}
+use Rattle.record.specs.Kinds.{fixComponent, fixCenter, kindAt, wordOf, numberless, number, expression}
 use Rattle.record.specs.Record.{labelPlaces, firstGuess}
 use Rattle.record.specs.Decode.{isGuess}
 use Rattle.record.specs.Entry.{noView, viewOf, part, entryOf}
@@ -32,8 +32,8 @@ use Rattle.record.proofs.Found.{Found, dotted, label-found, suffixed-found}
 use Rattle.record.proofs.Agree.{sound-of}
 use Rattle.forms.specs.declared.pieces.Amount.{Amount}
 use Rattle.forms.specs.declared.pieces.Side.{Side}
-use Rattle.forms.specs.Forms.{Lines, lineThen, viewFrom, oneLabelled, aroundOn, eitherOn, componentOn, pairOn, declareOn, fixedOn, assignOn, moreOn, angleOn, amountOn, gapOn, keywordOn, keywordKinds, instructionOn, guessedOn, guessOn, lineOn}
-use Rattle.forms.proofs.Kept.{Declares, instruction-of, side-kept, pair-kept, suffixed-kept, around-kept, more-kept, gap-kept, amount-kept}
+use Rattle.forms.specs.Forms.{Lines, lineThen, viewFrom, oneLabelled, aroundOn, eitherOn, componentOn, pairOn, declareOn, fixedOn, assignOn, moreOn, angleOn, amountOn, gapOn, keywordOn, guessedOn, guessOn, lineOn}
+use Rattle.forms.proofs.Kept.{instruction-of, fixed-kept, assign-kept, pair-kept, suffixed-kept, around-kept, gap-kept, amount-kept}
 use Rattle.forms.proofs.Stands.{Behind, same, kept-behind}
 
 -- ---- a record over a text, of an instruction or of a guess
@@ -50,43 +50,40 @@ pub record Proper (s : List ℕ) (guess : Bool) (r : Record) : Type 0 where
 -- ---- a record by its label places
 
 -- a label place that is used names a label of the text, and one that is not has zeros
-record Held (s : List ℕ) (dotted used : Bool) (v : View) : Type 0 where
-  there : used ≡ true → (v .start + v .len ≤ length s) × Spelled dotted (part s (v .start) (v .len))
-  absent : used ≡ false → v ≡ noView
+abbrev Held : List ℕ → Bool → Bool → View → Type 0
+Held s dotted true v = (v .start + v .len ≤ length s) × Spelled dotted (part s (v .start) (v .len))
+Held s dotted false v = v ≡ noView
 
 module _ (s : List ℕ) where
-  found-held : (dotted : Bool) (l : ReadLabel) → Found s dotted l → Held s dotted true (viewFrom l)
-  found-held dotted l f = record { there = λ e. (f .inside, f .spelled); absent = λ e. absurd (true≢false e) }
-
-  none-held : (dotted : Bool) → Held s dotted false noView
-  none-held dotted = record { there = λ e. absurd (true≢false (sym e)); absent = λ e. refl }
+  label-held : (t : Stand) → Reached (labelOn s t .then) → Held s false true (viewFrom (labelOn s t))
+  label-held t h = let f = label-found s t h in (f .inside, f .spelled)
 
   -- one more label, where a row has one
-  more-held : (t : Stand) (used : Bool) → Reached (moreOn s t used .then) → Held s false used (viewFrom (moreOn s t used))
+  more-held : (t : Stand) (used : Bool) → Reached (moreOn s t used .then) → Reached t × Held s false used (viewFrom (moreOn s t used))
   unfolding moreOn
-  more-held t true h = found-held false (labelOn s (aroundOn s t 44)) (label-found s (aroundOn s t 44) h)
-  more-held t false h = none-held false
+  more-held t true h = let on = kept-behind s t in (on .label (around-kept on 44 (same t)) .back h, label-held (aroundOn s t 44) h)
+  more-held t false h = (h, refl)
 
-  proper-of : (r : Record) (guess : Bool) → isGuess (r .kind) ≡ guess → fieldsTest (kindAt (r .kind)) (r .third) (r .count) (r .x) (r .y) ≡ true
+  proper-of : {guess : Bool} (r : Record) → isGuess (r .kind) ≡ guess → fieldsTest (kindAt (r .kind)) (r .third) (r .count) (r .x) (r .y) ≡ true
       → r .count ≤ labelPlaces → length (r .labels) ≡ labelPlaces → EachBelow labelPlaces (λ q. Held s (kindAt (r .kind) .dotted) (ltb q (r .count)) (viewOf r q))
       → r .x < 2 ^ 64 → r .y < 2 ^ 64 → Proper s guess r
-  proper-of r guess sort fields few places held x-fits y-fits =
+  proper-of r sort fields few places held x-fits y-fits =
+      let there : (q : ℕ) → q < labelPlaces → q < r .count → Held s (kindAt (r .kind) .dotted) true (viewOf r q)
+      = λ q h u. rw (lt-ltb q (r .count) u) at (held q h) in
       record {
         sort = sort;
         few = few;
         places = places;
-        placed = λ q h. record { used = λ u. held q h .there (lt-ltb q (r .count) u) .0; unused = λ u. held q h .absent (le-ltb q (r .count) u) };
-        sound = sound-of s r few fields (λ q h u. held q h .there (lt-ltb q (r .count) u) .1);
+        placed = λ q h. record { used = λ u. there q h u .0; unused = λ u. rw (le-ltb q (r .count) u) at (held q h) };
+        sound = sound-of s r few fields (λ q h u. there q h u .1);
         x-fits = x-fits;
         y-fits = y-fits;
       }
 
   -- a record with one label
-  one-proper : (guess : Bool) (kind third x y : ℕ) (l : ReadLabel) → isGuess kind ≡ guess → fieldsTest (kindAt kind) third 1 x y ≡ true
+  one-proper : {guess : Bool} {kind third x y : ℕ} (l : ReadLabel) → isGuess kind ≡ guess → fieldsTest (kindAt kind) third 1 x y ≡ true
       → x < 2 ^ 64 → y < 2 ^ 64 → Found s (kindAt kind .dotted) l → Proper s guess (oneLabelled kind third l x y)
-  one-proper guess kind third x y l sort fields x-fits y-fits f =
-      let empty = none-held (kindAt kind .dotted) in
-      proper-of (oneLabelled kind third l x y) guess sort fields (omega arith) refl (each-place _ (found-held (kindAt kind .dotted) l f) empty empty empty) x-fits y-fits
+  one-proper l sort fields x-fits y-fits f = proper-of _ sort fields (omega arith) refl (each-place _ (f .inside, f .spelled) refl refl refl) x-fits y-fits
 
 -- ---- third bytes
 
@@ -100,10 +97,6 @@ side-third s t a b Q f g = either-of (λ (i : Side). Q (i .third)) (wordOn s t a
 small : 0 < 2 ^ 64
 small = lit< tt
 
-pair-fit : (s : List ℕ) (t : Stand) → (pairOn s t .x < 2 ^ 64) × (pairOn s t .y < 2 ^ 64)
-unfolding pairOn
-pair-fit s t = (number-read s _ .fits, number-read s _ .fits)
-
 -- ---- a line
 
 -- its records are proper; it has two at most, and where its end was read one at least
@@ -112,7 +105,7 @@ pub record Lined (s : List ℕ) (guess : Bool) (l : Lines) : Type 0 where
   pub some : Reached (l .then) → 0 < length (l .records)
   pub few : length (l .records) ≤ 2
 
-module _ (s : List ℕ) (guess : Bool) where
+module _ {s : List ℕ} {guess : Bool} where
   lined : (rs : List Record) (u : Stand) → 0 < length rs → length rs ≤ 2 → (Reached u → Each (Proper s guess) rs) → Lined s guess (lineThen rs u)
   lined rs (At n) some few p = record { proper = p (here n); some = λ h. some; few = few }
   lined rs Nothing some few p = record { proper = tt; some = λ h. absurd (h .is); few = omega arith }
@@ -140,48 +133,32 @@ amount-fields s t k h =
     let z = kindAt k in
     let Q : Amount → Type 0 = λ n. (fieldsTest z (n .third) (z .labels) (n .bits) 0 ≡ true) × (n .bits < 2 ^ 64) in
     cond-of Q (eqb (z .number) numberless) _ _ (λ e. (rw e (rw e at h), small))
-    (λ e. cond-of Q (eqb (z .number) number) _ _ (λ f. (rw e (rw (e, f) at h), number-read s _ .fits))
-    (λ f. cond-of Q (eqb (z .number) expression) _ _ (λ g. (rw e (rw (e, f, g) at h), expr-read s _ .fits))
+    (λ e. cond-of Q (eqb (z .number) number) _ _ (λ f. (rw e (rw (e, f) at h), number-fits s _))
+    (λ f. cond-of Q (eqb (z .number) expression) _ _ (λ g. (rw e (rw (e, f, g) at h), expr-fits s _))
     (λ g.
     let w = says-and says-so says-so .so (rw (e, f, g) at h) in
     let x = numberOn s (aroundOn s t 44) .bits in
-    (side-third s _ (bytes "deg") (bytes "rad") (λ third. fieldsTest z third (z .labels) x 0 ≡ true) (rw e (w .0)) (rw e (w .1)), number-read s _ .fits))))
-
-all-rows : all row keywordKinds ≡ true
-all-rows = refl
+    (side-third s _ (bytes "deg") (bytes "rad") (λ third. fieldsTest z third (z .labels) x 0 ≡ true) (rw e (w .0)) (rw e (w .1)), number-fits s _))))
 
 module _ (s : List ℕ) where
-  declare-lined : (k : ℕ) (t : Stand) → Declares k → Lined s false (declareOn s t k)
-  unfolding declareOn
-  declare-lined k t d =
-      let at = wsOn s (wordOn s t (wordOf k)) in
-      let l = labelOn s at in
-      one-lined s false (oneLabelled k 0 l 0 0) (l .then) (λ h. one-proper s false k 0 0 0 l (d .0) (d .1) small small (rw (d .2) (label-found s at h)))
-
   fixed-lined : (l : ReadLabel) (k : ℕ) (between : List ℕ) → isGuess k ≡ false → ((x : ℕ) → (fieldsTest (kindAt k) 1 1 x 0 ≡ true) × (fieldsTest (kindAt k) 2 1 x 0 ≡ true))
       → (Reached (l .then) → Found s (kindAt k .dotted) l) → Lined s false (fixedOn s l k between)
   unfolding fixedOn
   fixed-lined l k between sort fields f =
-      let u = wordOn s (l .then) between in
-      let c = componentOn s u in
-      let n = numberOn s (aroundOn s (c .then) 61) in
+      let n = numberOn s (aroundOn s (componentOn s (wordOn s (l .then) between) .then) 61) in
       let on = kept-behind s (l .then) in
-      let b : Behind (l .then) (n .then) = on .number (around-kept on 61 (side-kept on (bytes "x") (bytes "y") (on .word between (same (l .then))))) in
-      let w = side-third s u (bytes "x") (bytes "y") (λ third. fieldsTest (kindAt k) third 1 (n .bits) 0 ≡ true) (fields (n .bits) .0) (fields (n .bits) .1) in
-      one-lined s false (oneLabelled k (c .third) l (n .bits) 0) (n .then)
-      (λ h. one-proper s false k (c .third) (n .bits) 0 l sort w (number-read s _ .fits) small (f (b .back h)))
+      let w = side-third s _ (bytes "x") (bytes "y") (λ third. fieldsTest (kindAt k) third 1 (n .bits) 0 ≡ true) (fields (n .bits) .0) (fields (n .bits) .1) in
+      one-lined _ (n .then) (λ h. one-proper s l sort w (number-fits s _) small (f (fixed-kept on l k between (on .word between (same (l .then))) .back h)))
 
   assign-lined : (l : ReadLabel) → (Reached (l .then) → Found s false l) → Lined s false (assignOn s l)
-  unfolding assignOn
+  unfolding assignOn pairOn
   assign-lined l f =
       let m = suffixedOn s l in
       let p = pairOn s (aroundOn s (m .then) 61) in
       let on = kept-behind s (l .then) in
-      let b : Behind (l .then) (p .then) = pair-kept on (around-kept on 61 (suffixed-kept on l (same (l .then)))) in
-      let one : (third x : ℕ) → fieldsTest (kindAt fixComponent) third 1 x 0 ≡ true → x < 2 ^ 64 → Reached (p .then) → Proper s false (oneLabelled fixComponent third m x 0)
-      = λ third x fields fits h. one-proper s false fixComponent third x 0 m refl fields fits small (suffixed-found s l (f (b .back h))) in
-      lined s false (oneLabelled fixComponent 1 m (p .x) 0 ∷ oneLabelled fixComponent 2 m (p .y) 0 ∷ []) (p .then) (omega arith) (omega arith)
-      (λ h. (one 1 (p .x) refl (pair-fit s _ .0) h, (one 2 (p .y) refl (pair-fit s _ .1) h, tt)))
+      let found : Reached (p .then) → Found s true m = λ h. suffixed-found s l (f (assign-kept on l (around-kept on 61 (suffixed-kept on l (same (l .then)))) .back h)) in
+      lined (oneLabelled fixComponent 1 m (p .x) 0 ∷ oneLabelled fixComponent 2 m (p .y) 0 ∷ []) (p .then) (omega arith) (omega arith)
+      (λ h. (one-proper s m refl refl (number-fits s _) small (found h), (one-proper s m refl refl (number-fits s _) small (found h), tt)))
 
   keyword-lined : (k : ℕ) (t : Stand) → row k ≡ true → Lined s false (keywordOn s t k)
   unfolding keywordOn
@@ -194,56 +171,40 @@ module _ (s : List ℕ) where
       let c = moreOn s (b .then) (ltb 2 (z .labels)) in
       let d = moreOn s (c .then) (ltb 3 (z .labels)) in
       let n = amountOn s (d .then) (z .number) in
-      let end = byteOn s (gapOn s (n .then) (z .gap)) 41 in
       let on = kept-behind s (d .then) in
-      let d-end : Behind (d .then) end = on .byte 41 (gap-kept on (z .gap) (amount-kept on (z .number) (same (d .then)))) in
       let fields = amount-fields s (d .then) k (w .1 .1 .1) in
       let r : Record = record { kind = k; third = n .third; count = z .labels; labels = viewFrom a ∷ viewFrom b ∷ viewFrom c ∷ viewFrom d ∷ []; x = n .bits; y = 0 } in
-      one-lined s false r end
+      one-lined r (byteOn s (gapOn s (n .then) (z .gap)) 41)
       (λ h.
-      let hd = d-end .back h in
-      let hc = more-kept (kept-behind s (c .then)) (ltb 3 (z .labels)) (same (c .then)) .back hd in
-      let hb = more-kept (kept-behind s (b .then)) (ltb 2 (z .labels)) (same (b .then)) .back hc in
-      let ha = more-kept (kept-behind s (a .then)) (ltb 1 (z .labels)) (same (a .then)) .back hb in
-      let first : Held s false (ltb 0 (z .labels)) (viewFrom a) = rw (and-first (ltb 0 (z .labels)) _ (fields .0)) (found-held s false a (label-found s at ha)) in
-      proper-of s r false (lt-leb firstGuess k (w .1 .0)) (fields .0) (w .0) refl
-      (rw (not-true (z .dotted) (w .1 .1 .0)) (each-place (λ q. Held s false (ltb q (z .labels)) (viewOf r q)) first
-      (more-held s (a .then) (ltb 1 (z .labels)) hb) (more-held s (b .then) (ltb 2 (z .labels)) hc) (more-held s (c .then) (ltb 3 (z .labels)) hd)))
+      let fourth = more-held s (c .then) (ltb 3 (z .labels)) (on .byte 41 (gap-kept on (z .gap) (amount-kept on (z .number) (same (d .then)))) .back h) in
+      let third = more-held s (b .then) (ltb 2 (z .labels)) (fourth .0) in
+      let second = more-held s (a .then) (ltb 1 (z .labels)) (third .0) in
+      let first : Held s false (ltb 0 (z .labels)) (viewFrom a) = rw (and-first (ltb 0 (z .labels)) _ (fields .0)) (label-held s at (second .0)) in
+      proper-of s r (lt-leb firstGuess k (w .1 .0)) (fields .0) (w .0) refl
+      (rw (not-true (z .dotted) (w .1 .1 .0)) (each-place (λ q. Held s false (ltb q (z .labels)) (viewOf r q)) first (second .1) (third .1) (fourth .1)))
       (fields .1) small)
 
   -- ---- lines
 
-  instruction-lined : (t : Stand) → Lined s false (instructionOn s t)
-  instruction-lined t =
+  pub line-lined : (guess : Bool) (t : Stand) → Lined s guess (lineOn guess s t)
+  unfolding declareOn guessOn guessedOn pairOn
+  line-lined false t =
       let at = wsOn s t in
       let l = labelOn s at in
-      instruction-of s (Lined s false) (record { proper = tt; some = λ h. absurd (h .is); few = omega arith }) t (λ k d. declare-lined k at d)
+      instruction-of s (Lined s false) (record { proper = tt; some = λ h. absurd (h .is); few = omega arith }) t
+      (λ k d.
+      let u = wsOn s (wordOn s at (wordOf k)) in
+      one-lined _ _ (λ h. one-proper s (labelOn s u) (d .0) (d .1) small small (rw (d .2) (label-found s u h))))
       (fixed-lined l fixComponent (bytes ".") refl (λ x. (refl, refl)) (λ h. dotted s l (label-found s at h)))
       (fixed-lined l fixCenter (bytes ".center.") refl (λ x. (refl, refl)) (label-found s at))
-      (assign-lined l (label-found s at)) row all-rows (λ k e. keyword-lined k at e)
-
-  guessed-lined : (l : ReadLabel) (t : Stand) → (Reached t → Found s true l) → Lined s true (guessedOn s l t)
-  unfolding guessedOn
-  guessed-lined l t f =
-      let p = pairOn s t in
-      let n = numberOn s t in
-      let on = kept-behind s t in
-      either-of (Lined s true) (p .then) _ _
-      (one-lined s true (oneLabelled pairGuess 0 l (p .x) (p .y)) (p .then)
-      (λ h. one-proper s true pairGuess 0 (p .x) (p .y) l refl refl (pair-fit s t .0) (pair-fit s t .1) (f (pair-kept on (same t) .back h))))
-      (one-lined s true (oneLabelled numberGuess 0 l (n .bits) 0) (n .then)
-      (λ h. one-proper s true numberGuess 0 (n .bits) 0 l refl refl (number-read s t .fits) small (f (on .number (same t) .back h))))
-
-  guess-lined : (t : Stand) → Lined s true (guessOn s t)
-  unfolding guessOn
-  guess-lined t =
+      (assign-lined l (label-found s at)) row refl (λ k. keyword-lined k at)
+  line-lined true t =
       let l = labelOn s (wsOn s t) in
       let m = suffixedOn s l in
       let u = wsOn s (wordOn s (wsOn s (m .then)) (bytes "roughly")) in
       let on = kept-behind s (l .then) in
       let b : Behind (l .then) u = on .ws (on .word (bytes "roughly") (on .ws (suffixed-kept on l (same (l .then))))) in
-      guessed-lined m u (λ h. suffixed-found s l (label-found s (wsOn s t) (b .back h)))
-
-  pub line-lined : (guess : Bool) (t : Stand) → Lined s guess (lineOn guess s t)
-  line-lined false t = instruction-lined t
-  line-lined true t = guess-lined t
+      let found : (v : Stand) → Behind (l .then) v → Reached v → Found s true m = λ v f h. suffixed-found s l (label-found s (wsOn s t) (f .back h)) in
+      either-of (Lined s true) (pairOn s u .then) _ _
+      (one-lined _ _ (λ h. one-proper s m refl refl (number-fits s _) (number-fits s _) (found _ (pair-kept on b) h)))
+      (one-lined _ _ (λ h. one-proper s m refl refl (number-fits s u) small (found _ (on .number b) h)))

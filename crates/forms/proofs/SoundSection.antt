@@ -18,19 +18,17 @@ use Rattle.forms.proofs.SoundLines.{Proper, Lined, line-lined}
 
 module _ (s : List ℕ) (guess : Bool) where
   -- the records of so many lines
-  record Sound (most : ℕ) (l : Lines) : Type 0 where
-    proper : Each (Proper s guess) (l .records)
-    few : length (l .records) ≤ 2 * most
+  pub record Sound (most : ℕ) (l : Lines) : Type 0 where
+    pub proper : Each (Proper s guess) (l .records)
+    pub few : length (l .records) ≤ 2 * most
 
   none-sound : (most : ℕ) (t : Stand) → Sound most (noLine t)
   none-sound most t = record { proper = tt; few = omega arith }
 
   one-more : (most : ℕ) (l rest : Lines) → Lined s guess l → Sound most rest → Sound (suc most) (followedBy (l .records) rest)
   one-more most l rest f g =
-      record {
-        proper = each-append (Proper s guess) (l .records) (rest .records) (f .proper) (g .proper);
-        few = omega (arith, f .few, g .few, length-append (l .records) (rest .records));
-      }
+      let n = length-append (l .records) (rest .records) in
+      record { proper = each-append (Proper s guess) (l .records) (rest .records) (f .proper) (g .proper); few = omega arith }
 
   rest-sound : (most at : ℕ) → Sound most (restOf most guess s at)
   unfolding restOf
@@ -41,29 +39,27 @@ module _ (s : List ℕ) (guess : Bool) where
 
   -- the first line is due, so where reading stands at a place behind the lines it stood at one before them, and there is a record
   pub record Due (t : Stand) (l : Lines) : Type 0 where
-    pub proper : Each (Proper s guess) (l .records)
-    pub few : length (l .records) ≤ 2 * suc (length s)
+    pub sound : Sound (suc (length s)) l
     pub behind : Behind t (l .then)
     pub some : Reached (l .then) → 0 < length (l .records)
 
   unread-due : (t u : Stand) → (Reached u → ⊥) → Due t (noLine u)
-  unread-due t u f = record { proper = tt; few = omega arith; behind = record { back = λ h. absurd (f h) }; some = λ h. absurd (f h) }
+  unread-due t u f = record { sound = none-sound _ u; behind = record { back = λ h. absurd (f h) }; some = λ h. absurd (f h) }
 
   pub lines-due : (t : Stand) (number : ℕ) → Due t (linesOn guess s t number)
   unfolding linesOn
-  lines-due t number = go (due t (lineOn guess s t .then) number) (due-behind t (lineOn guess s t .then) number)
+  lines-due t number = go (due t (lineOn guess s t .then) number) (due-behind t (lineOn guess s t .then) number (same _))
     where
       go : (u : Stand) → Behind (lineOn guess s t .then) u → Due t (from u (noLine u) (λ next. followedBy (lineOn guess s t .records) (restOf (length s) guess s next)))
       go (At next) b =
           let l = lineOn guess s t in
           let f = line-lined s guess t in
           let k = b .back (here next) in
-          let w = one-more (length s) l (restOf (length s) guess s next) f (rest-sound (length s) next) in
+          let rest = restOf (length s) guess s next in
           record {
-            proper = w .proper;
-            few = w .few;
+            sound = one-more (length s) l rest f (rest-sound (length s) next);
             behind = record { back = λ h. line-kept (kept-behind s t) guess (same t) .back k };
-            some = λ h. omega (arith, f .some k, length-append (l .records) (restOf (length s) guess s next .records));
+            some = λ h. omega (arith, f .some k, length-append (l .records) (rest .records));
           }
       go Nothing b = unread-due t Nothing (λ h. h .is)
       go (Refused why) b = unread-due t (Refused why) (λ h. h .is)

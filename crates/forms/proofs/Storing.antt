@@ -1,6 +1,5 @@
 -- Records stored one after another. Assumes nothing.
 use mathlib.Core.Path.{_≡_, refl, sym, _∙_}
-use mathlib.Core.Bool.{true, false, cond}
 use mathlib.Core.List.{List, [], _∷_, _++_}
 use Prim.Native.Nat.{ℕ, suc, _+_, _*_, _≤_}
 use native.Mathlib.Nat.{add-zero}
@@ -13,9 +12,7 @@ use Rattle.store.proofs.Laws.{written-length, written-append, written-none}
 use Rattle.record.specs.Record.{recordBytes, encode, encodeAll}
 use Rattle.record.specs.declared.Record.{Record}
 use Rattle.record.proofs.Back.{length-encode, count-all}
-use Rattle.forms.specs.declared.pieces.Parsed.{Parsed}
 use Rattle.forms.specs.Section.{store, stored}
-use Rattle.forms.specs.Steps.{component, recordsOf, Stored}
 
 -- ---- lengths
 
@@ -36,18 +33,6 @@ stored-append d n [] ts = rw (add-zero n)
 stored-append d n (r ∷ rs) ts =
     let e : n + 1 + length rs ≡ n + suc (length rs) = omega arith in
     rw (← e) (stored-append (store d n r) (n + 1) rs ts)
-
--- ---- the records of a line
-
-module _ (l : Parsed) (d d′ : List ℕ) (n : ℕ) where
-  pub one-stored : l .two ≡ false → d′ ≡ store d n (l .first) → Stored d n (recordsOf l) (n + 1) d′
-  unfolding stored
-  one-stored t e = rw t (record { next-is = refl; buffer = e })
-
-  pub two-stored : (d₁ : List ℕ) (x y : Record) → l .two ≡ true → x ≡ component (l .first) 1 (l .first .x) → y ≡ component (l .first) 2 (l .first .y)
-      → d₁ ≡ store d n x → d′ ≡ store d₁ (n + 1) y → Stored d n (recordsOf l) (n + 2) d′
-  unfolding stored
-  two-stored d₁ x y t ex ey e f = rw (t, ← ex, ← ey) (record { next-is = refl; buffer = rw e at f })
 
 -- ---- all records, where there is room for all
 

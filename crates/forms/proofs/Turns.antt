@@ -14,6 +14,7 @@ use Rattle.text.specs.declared.Stand.the-variants.{At, Nothing, Refused}
 use Rattle.text.proofs.Laws.{handed, cond-of}
 use Rattle.record.specs.declared.Record.{Record}
 use Rattle.text.proofs.Stand.{the-type}
+use Rattle.forms.specs.declared.Count.{Count}
 use Rattle.forms.specs.declared.pieces.Parsed.{Parsed}
 use Rattle.forms.specs.Forms.{Lines, noLine, lineOn}
 use Rattle.forms.specs.Section.{followedBy, restOf, linesOn, stored, SectionRead}
@@ -66,64 +67,59 @@ none-left most g s at = go (starts (10 ∷ []) (drop at s)) most
     go false zero h = refl
     go false (suc m) h = rw (line-nowhere s g)
 
--- ---- what holds at the loop's head: k lines were read, n is the next place, the next line is due at a stand, and reading stands at the other without it
+-- ---- the records of no line, and of one more
+
+pub none-read : (d : List ℕ) (n : ℕ) (then : Stand) → SectionRead d n (noLine then) (record { count = n; then = then }) d
+unfolding stored
+none-read d n then = record { count-is = omega arith; then-is = refl; buffer = refl }
+
+more-read : {d d′ : List ℕ} {n : ℕ} {x : Count} (rs : List Record) (l : Lines)
+    → SectionRead (stored d n rs) (n + length rs) l x d′ → SectionRead d n (followedBy rs l) x d′
+more-read {d} {n = n} rs l r =
+    record { count-is = omega (arith, r .count-is, length-append rs (l .records)); then-is = r .then-is; buffer = r .buffer ∙ sym (stored-append d n rs (l .records)) }
+
+pub nowhere : (g : Bool) (s d : List ℕ) (n : ℕ) (t : Stand) (number : ℕ) → OneOf (1 ∷ 2 ∷ []) (tagOf the-type t)
+    → SectionRead d n (linesOn g s t number) (record { count = n; then = t }) d
+nowhere g s d n t number h = rw (lines-nowhere g s t number h) (none-read d n t)
+
+-- ---- what holds at the loop's head: k lines were read, n is the next place, the next line is due at a stand, and reading stands at the other
+-- without it; who reads the lines that are left has read all
 
 pub record Left (g : Bool) (s d₀ : List ℕ) (start : ℕ) (all : Lines) (d : List ℕ) (n : ℕ) (stand other : Stand) (k : ℕ) : Type 0 where
-  pub buffer : stored d₀ start (all .records) ≡ stored d n (leftOf (suc (length s) - k) g s stand other .records)
-  pub count : start + length (all .records) ≡ n + length (leftOf (suc (length s) - k) g s stand other .records)
-  pub then : all .then ≡ leftOf (suc (length s) - k) g s stand other .then
+  pub rest : {x : Count} {d′ : List ℕ} → SectionRead d n (leftOf (suc (length s) - k) g s stand other) x d′ → SectionRead d₀ start all x d′
   pub size : length d ≡ length d₀
   pub few : n ≤ start + 2 * k
 
-module _ (g : Bool) (s d₀ : List ℕ) (start : ℕ) where
-  pub nowhere : (t : Stand) (number : ℕ) → OneOf (1 ∷ 2 ∷ []) (tagOf the-type t) → SectionRead d₀ start (linesOn g s t number) (record { count = start; then = t }) d₀
-  unfolding stored
-  nowhere t number h = rw (lines-nowhere g s t number h) (record { count-is = omega arith; then-is = refl; buffer = refl })
+pub first : (g : Bool) (s d : List ℕ) (n at number : ℕ) → Left g s d n (linesOn g s (At at) number) d n (At at) (refusedAt number at) 0
+first g s d n at number =
+    let e : suc (length s) - 0 ≡ suc (length s) = omega arith in
+    record { rest = λ r. rw (lines-left g s at number) (rw e at r); size = refl; few = omega arith }
 
-  pub first : (at number : ℕ) → Left g s d₀ start (linesOn g s (At at) number) d₀ start (At at) (refusedAt number at) 0
-  first at number =
-      let e : suc (length s) - 0 ≡ suc (length s) = omega arith in
-      let all = lines-left g s at number in
-      record { buffer = rw (e, all); count = rw (e, all); then = rw (e, all); size = refl; few = omega arith }
-
-  -- the loop ends where nothing more is left
-  ended : (all : Lines) (d : List ℕ) (n : ℕ) (stand other : Stand) (k : ℕ) → Left g s d₀ start all d n stand other k → (then : Stand)
-      → leftOf (suc (length s) - k) g s stand other ≡ noLine then → SectionRead d₀ start all (record { count = n; then = then }) d
-  unfolding stored
-  ended all d n stand other k l then e =
-      record { count-is = omega (arith, rw e at (l .count)); then-is = sym (rw e at (l .then)); buffer = sym (rw e at (l .buffer)) }
-
-  module _ (all : Lines) (d : List ℕ) (n : ℕ) (stand other : Stand) (k : ℕ) (l : Left g s d₀ start all d n stand other k) where
-    module _ (line : Parsed) (line-is : meantLine line ≡ lineOn g s stand) (h : k ≤ length s) where
-      line-left : leftOf (suc (length s) - k) g s stand other
-          ≡ from (line .then) (noLine (orStand (line .then) (line .then) other)) (λ next. followedBy (meantLine line .records) (restOf (length s - k) g s next))
-      unfolding leftOf
-      line-left = let one : suc (length s) - k ≡ suc (length s - k) = omega arith in rw (one, ← line-is)
-
-      pub turn : (next : ℕ) → line .then ≡ At next
-          → Left g s d₀ start all (stored d n (recordsOf line)) (n + length (recordsOf line)) (newlineOn s (At next)) (At next) (k + 1)
-      turn next e =
-          let less : suc (length s) - (k + 1) ≡ length s - k = omega arith in
-          let more = leftOf (suc (length s) - (k + 1)) g s (newlineOn s (At next)) (At next) in
-          let here : leftOf (suc (length s) - k) g s stand other ≡ followedBy (recordsOf line) more = rw (line-left, e, less, rest-left (length s - k) g s next) in
-          record {
-            buffer = l .buffer ∙ rw here (stored-append d n (recordsOf line) (more .records));
-            count = omega (arith, rw here at (l .count), length-append (recordsOf line) (more .records));
-            then = rw here at (l .then);
-            size = stored-length d n (recordsOf line) ∙ l .size;
-            few = omega (arith, few-records line);
-          }
-
-      -- no new line stands behind it
-      pub last : (next : ℕ) → line .then ≡ At next → OneOf (1 ∷ 2 ∷ []) (tagOf the-type (newlineOn s (At next)))
-          → SectionRead d₀ start all (record { count = n + length (recordsOf line); then = At next }) (stored d n (recordsOf line))
-      last next e o = ended all (stored d n (recordsOf line)) (n + length (recordsOf line)) (newlineOn s (At next)) (At next) (k + 1) (turn next e) (At next) (none-left (suc (length s) - (k + 1)) g s next o)
-
-      pub halt : OneOf (1 ∷ 2 ∷ []) (tagOf the-type (line .then)) → SectionRead d₀ start all (record { count = n; then = orStand (line .then) (line .then) other }) d
-      halt o = ended all d n stand other k l (orStand (line .then) (line .then) other) (rw line-left (sym (handed (line .then) _ _ o)))
-
-    pub over : length s < k → SectionRead d₀ start all (record { count = n; then = other }) d
+module _ {g : Bool} {s d₀ : List ℕ} {start : ℕ} {all : Lines} {d : List ℕ} {n : ℕ} {stand other : Stand} {k : ℕ} (l : Left g s d₀ start all d n stand other k) where
+  module _ (line : Parsed) (line-is : meantLine line ≡ lineOn g s stand) (h : k ≤ length s) where
+    line-left : leftOf (suc (length s) - k) g s stand other
+        ≡ from (line .then) (noLine (orStand (line .then) (line .then) other)) (λ next. followedBy (meantLine line .records) (restOf (length s - k) g s next))
     unfolding leftOf
-    over h =
-        let over : suc (length s) - k ≡ 0 = omega arith in
-        ended all d n stand other k l other (rw over)
+    line-left = let one : suc (length s) - k ≡ suc (length s - k) = omega arith in rw (one, ← line-is)
+
+    pub turn : (next : ℕ) → line .then ≡ At next
+        → Left g s d₀ start all (stored d n (recordsOf line)) (n + length (recordsOf line)) (newlineOn s (At next)) (At next) (k + 1)
+    turn next e =
+        let less : suc (length s) - (k + 1) ≡ length s - k = omega arith in
+        record {
+          rest = λ r. l .rest (rw (line-left, e, rest-left (length s - k) g s next) (more-read (recordsOf line) _ (rw less at r)));
+          size = stored-length d n (recordsOf line) ∙ l .size;
+          few = omega (arith, few-records line);
+        }
+
+    -- no new line stands behind it
+    pub last : (next : ℕ) → line .then ≡ At next → OneOf (1 ∷ 2 ∷ []) (tagOf the-type (newlineOn s (At next)))
+        → SectionRead d₀ start all (record { count = n + length (recordsOf line); then = At next }) (stored d n (recordsOf line))
+    last next e o = turn next e .rest (rw (none-left (suc (length s) - (k + 1)) g s next o) (none-read _ _ _))
+
+    pub halt : OneOf (1 ∷ 2 ∷ []) (tagOf the-type (line .then)) → SectionRead d₀ start all (record { count = n; then = orStand (line .then) (line .then) other }) d
+    halt o = l .rest (rw (line-left, ← handed (line .then) (noLine (orStand (line .then) (line .then) other)) _ o) (none-read _ _ _))
+
+  pub over : length s < k → SectionRead d₀ start all (record { count = n; then = other }) d
+  unfolding leftOf
+  over h = let none : suc (length s) - k ≡ 0 = omega arith in l .rest (rw none (none-read _ _ _))

@@ -9,14 +9,14 @@ use native.Mathlib.Nat.{lt-of-not-le}
 use borrow.Author.Tests.{eqb-true, eqb-false}
 use lib.Dec.{eqb, lit<}
 use lib.ListN.{length, getD, drop, List·getD-append}
-use Rattle.text.specs.Text.{starts, wordAt, wordOn}
+use Rattle.text.specs.Text.{starts, wordAt, wsOn, wordOn, labelOn}
 use Rattle.text.specs.declared.Stand.{Stand}
 use Rattle.text.specs.declared.Stand.the-variants.{At, Nothing}
 use Rattle.text.proofs.Laws.{starts-more, starts-stop, starts-short}
 use Rattle.record.specs.Kinds.{wordOf, padded, begins}
 use Rattle.forms.specs.Forms.{noLine, declareOn, keywordOn}
-use Rattle.forms.proofs.Kept.{declare-kept, keyword-kept}
-use Rattle.forms.proofs.Stands.{kept-nothing, unread}
+use Rattle.forms.proofs.Kept.{keyword-kept}
+use Rattle.forms.proofs.Stands.{kept-nothing}
 
 -- ---- the first two bytes
 
@@ -52,8 +52,8 @@ past-end s w at l h = rw (starts-short w s 0 at (omega arith) h)
 module _ (s : List ℕ) (stand : Stand) (k : ℕ) (e : wordOn s stand (wordOf k) ≡ Nothing) where
   pub no-keyword : keywordOn s stand k ≡ noLine Nothing
   unfolding keywordOn
-  no-keyword = unread _ _ (keyword-kept (kept-nothing s) stand k e)
+  no-keyword = rw (keyword-kept (kept-nothing s) stand k e)
 
   pub no-declaration : declareOn s stand k ≡ noLine Nothing
-  unfolding declareOn
-  no-declaration = unread _ _ (declare-kept (kept-nothing s) stand k e)
+  unfolding declareOn wsOn labelOn
+  no-declaration = rw e

@@ -1,7 +1,7 @@
 -- Laws of lists, tests and matches that more than one crate cites. Assumes nothing.
-use mathlib.Core.Path.{_≡_, refl, sym}
+use mathlib.Core.Path.{_≡_, refl}
 use mathlib.Core.Logic.{_⊎_, inl, inr, ⊎-elim}
-use mathlib.Core.Bool.{Bool, true, false, _&&_, cond, true≢false}
+use mathlib.Core.Bool.{Bool, true, false, _&&_, cond}
 use mathlib.Core.List.{List, [], _∷_}
 use Prim.Native.Nat.{ℕ, zero, suc, _+_, _≤_, _<_}
 use native.Mathlib.Nat.{not-suc-le-zero}
@@ -19,11 +19,11 @@ getD-inside (x ∷ l) (suc k) d e h = getD-inside l k d e (omega arith)
 
 pub and-first : (a b : Bool) → (a && b) ≡ true → a ≡ true
 and-first true b e = refl
-and-first false b e = absurd (true≢false (sym e))
+and-first false b e = cc
 
 pub and-second : (a b : Bool) → (a && b) ≡ true → b ≡ true
 and-second true b e = e
-and-second false b e = absurd (true≢false (sym e))
+and-second false b e = cc
 
 -- ---- a test of every element, computed once over a table
 
@@ -52,8 +52,5 @@ NoneFrom m (suc n) k = NoneFrom m n k × (k ≡ m + n → ⊥)
 
 -- so it is below them, or behind them
 pub none-from : (m n k : ℕ) → NoneFrom m n k → (k < m) ⊎ (m + n ≤ k)
-none-from m zero k h = elim (decLt k m) [
-  | yes l ↦ inl l
-  | no f ↦ inr (omega (arith, f))
-]
-none-from m (suc n) k h = ⊎-elim (λ (l : k < m). inl l) (λ (l : m + n ≤ k). inr (omega (arith, l, h .1))) (none-from m n k (h .0))
+none-from m zero k h = elim (decLt k m) [ yes l ↦ inl l | no f ↦ inr (omega arith) ]
+none-from m (suc n) k h = ⊎-elim (λ l. inl l) (λ (l : m + n ≤ k). inr (omega arith)) (none-from m n k (h .0))

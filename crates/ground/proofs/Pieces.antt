@@ -2,9 +2,9 @@
 use mathlib.Core.Path.{_≡_, refl, sym, ap, _∙_, subst}
 use mathlib.Core.Logic.{⊎-elim}
 use mathlib.Core.Bool.{Bool, true, false, cond}
-use mathlib.Core.List.{List, [], _∷_, _++_, append-assoc, append-nil, map, List·Memᴰ, List·Memᴰ·head, List·Memᴰ·tail, List·Memᴰ·cases-cons, List·Memᴰ·not-nil}
-use Prim.Native.Nat.{ℕ, zero, suc, _+_, _*_, _≤_, _<_, suc-le-suc}
-use native.Mathlib.Nat.{le-refl, le-of-suc-le-suc, not-suc-le-zero, zero-lt-suc, zero-mul, suc-mul}
+use mathlib.Core.List.{List, [], _∷_, _++_, append-assoc, append-nil, map, List·Memᴰ, List·Memᴰ·cases-cons, List·Memᴰ·not-nil}
+use Prim.Native.Nat.{ℕ, zero, suc, _*_, _≤_, _<_, suc-le-suc}
+use native.Mathlib.Nat.{le-of-suc-le-suc, not-suc-le-zero, zero-lt-suc, add-comm, zero-mul, suc-mul}
 use native.Mathlib.Omega.{arith}
 use lib.ListN.{length, getD, take, drop, length-append, length-map, List·getD-map}
 use lib.Seq.{split-at, take-suc, take-length, take-at, drop-at, drop-drop}
@@ -22,21 +22,12 @@ module _ {A : Type 0} where
   each-append P [] ys a b = b
   each-append P (x ∷ xs) ys a b = (a .0, each-append P xs ys (a .1) b)
 
-  pub each-left : (P : A → Type 0) (xs ys : List A) → Each P (xs ++ ys) → Each P xs
-  each-left P [] ys a = tt
-  each-left P (x ∷ xs) ys a = (a .0, each-left P xs ys (a .1))
-
-  pub each-right : (P : A → Type 0) (xs ys : List A) → Each P (xs ++ ys) → Each P ys
-  each-right P [] ys a = a
-  each-right P (x ∷ xs) ys a = each-right P xs ys (a .1)
-
   pub each-both : (P Q R : A → Type 0) → ((x : A) → P x → Q x → R x) → (xs : List A) → Each P xs → Each Q xs → Each R xs
   each-both P Q R f [] a b = tt
   each-both P Q R f (x ∷ xs) a b = (f x (a .0) (b .0), each-both P Q R f xs (a .1) (b .1))
 
   pub each-map : (P Q : A → Type 0) → ((x : A) → P x → Q x) → (xs : List A) → Each P xs → Each Q xs
-  each-map P Q f [] a = tt
-  each-map P Q f (x ∷ xs) a = (f x (a .0), each-map P Q f xs (a .1))
+  each-map P Q f xs a = each-both P P Q (λ x p q. f x p) xs a a
 
   pub each-at : (P : A → Type 0) (xs : List A) (d : A) → Each P xs → (j : ℕ) → j < length xs → P (getD xs j d)
   each-at P [] d a j h = absurd (not-suc-le-zero h)
@@ -53,16 +44,12 @@ module _ {A : Type 0} where
   each-has P [] x a m = absurd (List·Memᴰ·not-nil m)
   each-has P (y ∷ ys) x a m = ⊎-elim (λ e. subst P (sym e) (a .0)) (λ n. each-has P ys x (a .1) n) (List·Memᴰ·cases-cons m)
 
-  pub each-mem : (xs : List A) → Each (λ x. List·Memᴰ x xs) xs
-  each-mem [] = tt
-  each-mem (x ∷ xs) = (List·Memᴰ·head refl, each-map (λ y. List·Memᴰ y xs) (λ y. List·Memᴰ y (x ∷ xs)) (λ y m. List·Memᴰ·tail m) xs (each-mem xs))
-
 -- ---- what f makes of each, one after another
 
 module _ {A B : Type 0} (f : A → List B) where
   pub flat-append : (xs ys : List A) → flat f (xs ++ ys) ≡ flat f xs ++ flat f ys
   flat-append [] ys = refl
-  flat-append (x ∷ xs) ys = ap (λ (l : List B). f x ++ l) (flat-append xs ys) ∙ sym (append-assoc (f x) (flat f xs) (flat f ys))
+  flat-append (x ∷ xs) ys = rw (flat-append xs ys, append-assoc)
 
   pub each-flat : (P : A → Type 0) (Q : B → Type 0) → ((x : A) → P x → Each Q (f x)) → (xs : List A) → Each P xs → Each Q (flat f xs)
   each-flat P Q g [] a = tt
@@ -70,28 +57,22 @@ module _ {A B : Type 0} (f : A → List B) where
 
   -- one more
   pub flat-suc : (xs : List A) (n : ℕ) (d : A) → n < length xs → flat f (take (suc n) xs) ≡ flat f (take n xs) ++ f (getD xs n d)
-  flat-suc xs n d h =
-      ap (flat f) (take-suc xs n d h)
-      ∙ flat-append (take n xs) (getD xs n d ∷ [])
-      ∙ ap (λ (l : List B). flat f (take n xs) ++ l) (append-nil (f (getD xs n d)))
+  flat-suc xs n d h = rw (take-suc xs n d h, flat-append, append-nil)
 
   -- pieces of known lengths
   module _ (w : ℕ → ℕ) (xs : List A) (d : A) (e : (q : ℕ) → q < length xs → length (f (getD xs q d)) ≡ w q) where
     pub sum-to : (n : ℕ) → n ≤ length xs → length (flat f (take n xs)) ≡ sumTo w n
     sum-to zero h = refl
-    sum-to (suc n) h =
-        ap length (flat-suc xs n d h)
-        ∙ length-append (flat f (take n xs)) (f (getD xs n d))
-        ∙ rw (sum-to n (omega (arith, h)), e n h) refl
+    sum-to (suc n) h = rw (flat-suc xs n d h, length-append, sum-to n (omega arith), e n h)
 
     pub sum-flat : length (flat f xs) ≡ sumTo w (length xs)
-    sum-flat = ap (λ (l : List A). length (flat f l)) (sym (take-length xs)) ∙ sum-to (length xs) (le-refl (length xs))
+    sum-flat = rw take-length at (sum-to (length xs) (omega arith))
 
   -- pieces of one length
   module _ (k : ℕ) where
     pub length-flat : (xs : List A) → Each (λ x. length (f x) ≡ k) xs → length (flat f xs) ≡ length xs * k
     length-flat [] a = sym (zero-mul k)
-    length-flat (x ∷ xs) a = length-append (f x) (flat f xs) ∙ omega (arith, a .0, length-flat xs (a .1), suc-mul (length xs) k)
+    length-flat (x ∷ xs) a = rw (length-append, a .0, length-flat xs (a .1)) (omega arith)
 
     -- piece i, whatever follows
     pub piece-at : (xs : List A) (rest : List B) (d : A) → Each (λ x. length (f x) ≡ k) xs → (i : ℕ) → i < length xs
@@ -99,9 +80,7 @@ module _ {A B : Type 0} (f : A → List B) where
     piece-at [] rest d a i h = absurd (not-suc-le-zero h)
     piece-at (x ∷ xs) rest d a zero h = rw (zero-mul, append-assoc) (take-at (f x) (flat f xs ++ rest) k (a .0))
     piece-at (x ∷ xs) rest d a (suc i) h =
-        let e : suc i * k ≡ k + i * k = omega (arith, suc-mul i k) in
-        rw (e, append-assoc, ← drop-drop (i * k) k (f x ++ (flat f xs ++ rest)), drop-at (f x) (flat f xs ++ rest) k (a .0))
-        (piece-at xs rest d (a .1) i (le-of-suc-le-suc h))
+        rw (suc-mul, add-comm (i * k), ← drop-drop, append-assoc, drop-at (f x) (flat f xs ++ rest) k (a .0)) (piece-at xs rest d (a .1) i (le-of-suc-le-suc h))
 
 -- ---- f of each
 
@@ -122,7 +101,7 @@ pub record Picks {A B : Type 0} (p : A → Bool) (f : A → B) (g : List A → L
 
 module _ {A B : Type 0} (p : A → Bool) (f : A → B) (g : List A → List B) (picks : Picks p f g) where
   pub picks-append : (xs ys : List A) → g (xs ++ ys) ≡ g xs ++ g ys
-  picks-append [] ys = rw (picks .none) refl
+  picks-append [] ys = rw (picks .none)
   picks-append (x ∷ xs) ys = rw (picks .next x (xs ++ ys), picks-append xs ys, picks .next x xs) (go (p x))
     where
       go : (b : Bool) → cond b (f x ∷ (g xs ++ g ys)) (g xs ++ g ys) ≡ cond b (f x ∷ g xs) (g xs) ++ g ys
@@ -131,17 +110,11 @@ module _ {A B : Type 0} (p : A → Bool) (f : A → B) (g : List A → List B) (
 
   -- one element more
   pub picks-suc : (xs : List A) (i : ℕ) (d : A) → i < length xs → g (take (suc i) xs) ≡ g (take i xs) ++ cond (p (getD xs i d)) (f (getD xs i d) ∷ []) []
-  picks-suc xs i d h =
-      ap g (take-suc xs i d h)
-      ∙ picks-append (take i xs) (getD xs i d ∷ [])
-      ∙ ap (λ (l : List B). g (take i xs) ++ l) (picks .next (getD xs i d) [] ∙ rw (picks .none) refl)
+  picks-suc xs i d h = rw (take-suc xs i d h, picks-append, picks .next, picks .none)
 
   -- around one that passes
   pub picks-around : (xs : List A) (i : ℕ) (d : A) → i < length xs → p (getD xs i d) ≡ true → g xs ≡ g (take i xs) ++ f (getD xs i d) ∷ g (drop (suc i) xs)
-  picks-around xs i d h e =
-      ap g (split-at xs i d h)
-      ∙ picks-append (take i xs) (getD xs i d ∷ drop (suc i) xs)
-      ∙ ap (λ (l : List B). g (take i xs) ++ l) (picks .next (getD xs i d) (drop (suc i) xs) ∙ rw e refl)
+  picks-around xs i d h e = ap g (split-at xs i d h) ∙ rw (picks-append, picks .next, e)
 
   -- what holds of each that passes
   pub picks-each : (P : B → Type 0) (xs : List A) (d : A) → ((j : ℕ) → j < length xs → p (getD xs j d) ≡ true → P (f (getD xs j d))) → Each P (g xs)

@@ -2,7 +2,7 @@
 use mathlib.Core.Path.{_≡_, refl, ap, _∙_}
 use mathlib.Core.List.{List, [], _∷_, _++_, map, map-id}
 use Prim.Native.Nat.{ℕ, zero, suc, _+_, _<_}
-use native.Mathlib.Nat.{le-of-suc-le-suc, not-suc-le-zero}
+use native.Mathlib.Nat.{le-of-suc-le-suc, not-suc-le-zero, suc-add}
 use native.Mathlib.Omega.{arith}
 use lib.ListN.{length, getD}
 use Rattle.ground.specs.Lists.{upTo}
@@ -20,20 +20,17 @@ module _ {A : Type 0} where
   -- one more
   pub up-to-more : (n : ℕ) (f : ℕ → A) → upTo (n + 1) f ≡ upTo n f ++ (f n ∷ [])
   up-to-more zero f = refl
-  up-to-more (suc n) f =
-      let e : suc n + 1 ≡ suc (n + 1) = omega arith in
-      rw e (ap (λ (l : List A). f zero ∷ l) (up-to-more n (λ k. f (suc k))))
+  up-to-more (suc n) f = rw (suc-add, up-to-more n (λ k. f (suc k)))
 
   -- the same at each place below a count
   pub up-to-same : (n : ℕ) (f g : ℕ → A) → ((i : ℕ) → i < n → f i ≡ g i) → upTo n f ≡ upTo n g
   up-to-same zero f g h = refl
-  up-to-same (suc n) f g h =
-      rw (h zero (omega arith)) (ap (λ (l : List A). g zero ∷ l) (up-to-same n (λ k. f (suc k)) (λ k. g (suc k)) (λ i b. h (suc i) (omega arith))))
+  up-to-same (suc n) f g h = cc (h zero (omega arith), up-to-same n (λ k. f (suc k)) (λ k. g (suc k)) (λ i b. h (suc i) (omega arith)))
 
   -- what g makes of each element of a list, by its place
   pub up-to-map : {B : Type 0} (xs : List A) (d : A) (g : A → B) → upTo (length xs) (λ i. g (getD xs i d)) ≡ map g xs
   up-to-map [] d g = refl
-  up-to-map {B} (x ∷ xs) d g = ap (λ (l : List B). g x ∷ l) (up-to-map xs d g)
+  up-to-map (x ∷ xs) d g = cc (up-to-map xs d g)
 
   -- a list by what stands at its places
   pub up-to-list : (n : ℕ) (l : List A) (d : A) (f : ℕ → A) → length l ≡ n → ((q : ℕ) → q < n → f q ≡ getD l q d) → upTo n f ≡ l
@@ -42,4 +39,4 @@ module _ {A : Type 0} where
   -- what g makes of each
   pub map-up-to : {B : Type 0} (g : A → B) (n : ℕ) (f : ℕ → A) → map g (upTo n f) ≡ upTo n (λ q. g (f q))
   map-up-to g zero f = refl
-  map-up-to {B} g (suc n) f = ap (λ (l : List B). g (f zero) ∷ l) (map-up-to g n (λ k. f (suc k)))
+  map-up-to g (suc n) f = cc (map-up-to g n (λ k. f (suc k)))

@@ -4,7 +4,8 @@ use mathlib.Core.Path.{_≡_, refl, _∙_, ap}
 use Prim.Native.Nat.{ℕ, suc, _+_, _*_, _≤_, _<_}
 use borrow.Author.Needs.{needs}
 use native.Mathlib.Omega.{arith}
-use native.Mathlib.Nat.{suc-mul, zero-add}
+use native.Mathlib.Nat.{suc-mul, zero-add, add-zero, add-assoc}
+use native.Mathlib.Numerals.{one-add}
 use mathlib.Core.List.{List, [], _∷_, _++_, append-assoc, append-nil, map}
 use lib.ListN.{length, length-map}
 use lib.Ieee.{Float}
@@ -17,8 +18,8 @@ use Rattle.layout.specs.declared.Arc.{Arc}
 use Rattle.layout.specs.Slots.{Figure, point, circle, arc, kindOf, components, sizeOf, shapesIn, slotCount, withOne, empty, mostShapes, idsEnd, stageNumber, stageDue}
 use Rattle.layout.specs.Refusals.{reasonNumber, doneTold}
 use Rattle.layout.specs.Push.{State, state, toldIn, filled, stepped}
-use Rattle.layout.specs.Run.{Act, push, done, act, takes, run, taken, runOf, RunRoom, AllIn}
-use Rattle.refusal.specs.First.{passed}
+use Rattle.layout.specs.Run.{Act, push, done, act, run, taken, runOf, RunRoom, AllIn}
+use Rattle.refusal.specs.First.{passed, answered}
 use Rattle.refusal.proofs.Once.{answered-passed}
 use Rattle.layout.proofs.Laws.{by-kind, Can, can-be, Fits, fits-passes, done-passes}
 use Rattle.layout.proofs.Runs.{Kept, kept-filled, kept-act, kept-laid, kept-empty}
@@ -30,14 +31,10 @@ more K.Circle n l = record { points = l .points; circles = l .circles + n; arcs 
 more K.Arc n l = record { points = l .points; circles = l .circles; arcs = l .arcs + n; stage = l .stage }
 
 more-none : (k : ShapeKind) (l : Layout) → l ≡ more k 0 l
-more-none K.Point l = let e : l .points ≡ l .points + 0 = omega arith in ap (λ (n : ℕ). record { points = n; circles = l .circles; arcs = l .arcs; stage = l .stage }) e
-more-none K.Circle l = let e : l .circles ≡ l .circles + 0 = omega arith in ap (λ (n : ℕ). record { points = l .points; circles = n; arcs = l .arcs; stage = l .stage }) e
-more-none K.Arc l = let e : l .arcs ≡ l .arcs + 0 = omega arith in ap (λ (n : ℕ). record { points = l .points; circles = l .circles; arcs = n; stage = l .stage }) e
+more-none k l = by-kind (λ k. l ≡ more k 0 l) (rw add-zero) (rw add-zero) (rw add-zero) k
 
 more-one : (k : ShapeKind) (n : ℕ) (l : Layout) → more k n (withOne k l) ≡ more k (suc n) l
-more-one K.Point n l = let e : l .points + 1 + n ≡ l .points + suc n = omega arith in rw e
-more-one K.Circle n l = let e : l .circles + 1 + n ≡ l .circles + suc n = omega arith in rw e
-more-one K.Arc n l = let e : l .arcs + 1 + n ≡ l .arcs + suc n = omega arith in rw e
+more-one k n l = by-kind (λ k. more k n (withOne k l) ≡ more k (suc n) l) (rw (add-assoc, one-add)) (rw (add-assoc, one-add)) (rw (add-assoc, one-add)) k
 
 module _ (first : State) where
   -- n more of a kind have room
@@ -51,9 +48,7 @@ module _ (first : State) where
     left : first .next + (slotCount l + n * sizeOf k) ≤ idsEnd
 
   free-fits : (k : ShapeKind) (n : ℕ) (xs : List Figure) (s : State) → Kept first xs s → Free k (suc n) (s .layout) → Fits k (s .layout) (s .next) (length (s .ids)) (length (s .values))
-  free-fits k n xs s h f =
-      let e = suc-mul n (sizeOf k) in
-      search needs
+  free-fits k n xs s h f = let e = suc-mul n (sizeOf k) in search needs
 
   free-more : (k : ShapeKind) (n : ℕ) (l : Layout) → Free k (suc n) l → Free k n (withOne k l)
   free-more k n l = by-kind (λ k. Free k (suc n) l → Free k n (withOne k l)) (λ f. search needs) (λ f. search needs) (λ f. search needs) k
@@ -68,7 +63,7 @@ module _ (first : State) where
 
   module _ {X : Type 0} (make : X → Figure) (k : ShapeKind) (is : (x : X) → kindOf (make x) ≡ k) where
     leg : (xs : List X) (ys : List Figure) (s : State) → Kept first ys s → Free k (length xs) (s .layout) → Leg k (map make xs) ys s
-    unfolding run taken
+    unfolding run taken answered
     leg [] ys s h f =
         record {
           last = act done s;
@@ -82,17 +77,13 @@ module _ (first : State) where
         let t = free-fits k (length xs) ys s h f in
         let c : toldIn (kindOf (make x)) s ≡ passed = rw e (fits-passes _ _ _ _ _ (can-be _ (f .be)) t) in
         let s′ = filled (kindOf (make x)) (components (make x)) s in
-        let filled-is : act (push (make x)) s ≡ s′ = answered-passed reasonNumber _ _ _ c in
-        let took-it : takes (push (make x)) s ≡ make x ∷ [] = answered-passed reasonNumber _ _ _ c in
         let next = leg xs (ys ++ (make x ∷ [])) s′ (kept-filled first (make x) ys s h (rw e t)) (rw e (free-more k (length xs) (s .layout) f)) in
         record {
           last = next .last;
           layout-is = next .layout-is ∙ rw e (ap stepped (more-one k (length (map make xs)) (s .layout)));
           keeps = rw append-assoc at (next .keeps);
-          took = λ rest.
-              let acts = map push (map make xs) ++ (done ∷ rest) in
-              ap (λ (z : List Figure). z ++ taken acts (act (push (make x)) s)) took-it ∙ ap (λ (z : State). make x ∷ taken acts z) filled-is ∙ ap (λ (z : List Figure). make x ∷ z) (next .took rest);
-          went = λ rest. ap (run (map push (map make xs) ++ (done ∷ rest))) filled-is ∙ next .went rest;
+          took = λ rest. rw c (ap (λ (z : List Figure). make x ∷ z) (next .took rest));
+          went = λ rest. ap (run (map push (map make xs) ++ (done ∷ rest))) (answered-passed reasonNumber _ (toldIn (kindOf (make x)) s) _ c) ∙ next .went rest;
         }
 
 module _ (next : ℕ) (ids : List ℕ) (values : List Float) (ps : List Point) (cs : List Circle) (xs : List Arc) (room : RunRoom (state empty next ids values) (length ps) (length cs) (length xs)) where

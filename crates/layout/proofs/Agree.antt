@@ -1,12 +1,13 @@
 -- With ids all distinct, the two lookups of an arc agree on every arc exactly if there are no circles or no arcs: with both, the first arc's first slots differ.
 -- Assumes nothing.
-use mathlib.Core.Path.{_≡_, refl, sym, _∙_, ap}
+use mathlib.Core.Path.{_≡_, ap}
 use mathlib.Core.Bool.{false}
 use mathlib.Core.Logic.{_⊎_, inl, inr}
 use mathlib.Core.List.{List}
-use Prim.Native.Nat.{ℕ, zero, suc, _+_, _*_, _≤_, _<_}
+use Prim.Native.Nat.{ℕ, _+_, _*_, _≤_, _<_}
+use native.Mathlib.Nat.{eq-zero-or-pos}
 use native.Mathlib.Omega.{arith}
-use lib.ListN.{length, getD}
+use lib.ListN.{length}
 use Rattle.layout.specs.declared.ShapeKind.the-variants.{Arc}
 use Rattle.layout.specs.declared.Layout.{Layout}
 use Rattle.layout.specs.declared.ArcVars.{ArcVars}
@@ -27,19 +28,13 @@ module _ (l : Layout) (ids : List ℕ) (possible : impossible l ≡ false) (long
   agree (inl e) i h = let same : l .points * 2 + i * 6 ≡ slotOf Arc l i = omega arith in ap (arcIdsAt l ids i) same
   agree (inr e) i h = absurd (omega arith)
 
-  -- the first ids of the first arc
-  first-arc : 0 < l .arcs → arcIds l ids 0 ≡ arcSlotIds l ids 0 → getD ids (l .points * 2 + 0 * 6) 0 ≡ getD ids (slotOf Arc l 0) 0
-  unfolding arcIds arcSlotIds
-  first-arc h e =
-      let v : arcVars ids (l .points * 2 + 0 * 6) ≡ arcVars ids (slotOf Arc l 0) = cc (sym (found 0 (l .points * 2 + 0 * 6) h) ∙ e ∙ found 0 (slotOf Arc l 0) h) in
-      ap (λ (v : ArcVars). v .start .x) v
-
   pub circles-or-arcs : Distinct (slotCount l) ids → ((i : ℕ) → i < l .arcs → arcIds l ids i ≡ arcSlotIds l ids i) → (l .circles ≡ 0) ⊎ (l .arcs ≡ 0)
-  circles-or-arcs distinct same = by-count (l .arcs) refl
-    where
-      by-count : (a : ℕ) → l .arcs ≡ a → (l .circles ≡ 0) ⊎ (l .arcs ≡ 0)
-      by-count zero e = inr e
-      by-count (suc a) e =
-          let h : 0 < l .arcs = omega arith in
-          let slots : l .points * 2 + 0 * 6 ≡ slotOf Arc l 0 = distinct _ _ (omega arith) (omega arith) (first-arc h (same 0 h)) in
-          inl (omega arith)
+  unfolding arcIds arcSlotIds
+  circles-or-arcs distinct same = elim (eq-zero-or-pos (l .arcs)) [
+    | inl e ↦ inr e
+    | inr h ↦ (
+        let first : arcVars ids (l .points * 2 + 0 * 6) ≡ arcVars ids (slotOf Arc l 0) = cc (same 0 h, found 0 (l .points * 2 + 0 * 6) h, found 0 (slotOf Arc l 0) h) in
+        let slots : l .points * 2 + 0 * 6 ≡ slotOf Arc l 0 = distinct _ _ (omega arith) (omega arith) (ap (λ (v : ArcVars). v .start .x) first) in
+        inl (omega arith)
+        )
+  ]

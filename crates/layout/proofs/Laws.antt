@@ -1,13 +1,13 @@
 -- The tests of a layout, case by case, for a shape of any kind. Assumes nothing.
-use mathlib.Core.Path.{_≡_, refl, sym, _∙_, ap}
-use mathlib.Core.Bool.{Bool, true, false, _&&_, _||_, and-false}
+use mathlib.Core.Path.{_≡_, refl, _∙_, ap}
+use mathlib.Core.Bool.{Bool, true, false, not, _&&_, _||_, and-false}
 use Prim.Native.Nat.{ℕ, zero, suc, _+_, _-_, _≤_, _<_}
 use native.Mathlib.Omega.{arith}
-use mathlib.Core.List.{List}
+use mathlib.Core.List.{List, _∷_, _++_}
 use lib.ListN.{length}
 use lib.Ieee.{Float}
-use lib.Dec.{ltb}
-use borrow.Author.Tests.{le-ltb, lt-ltb, le-leb, lt-leb, eq-eqb, ne-eqb, ltb-false, leb-false, eqb-true, not-false}
+use lib.Dec.{ltb, eqb}
+use borrow.Author.Tests.{le-ltb, lt-leb, eq-eqb, ne-eqb, ltb-false, leb-false, eqb-true, not-false}
 use Rattle.layout.specs.declared.ShapeKind.{ShapeKind}
 use Rattle.layout.specs.declared.ShapeKind.the-variants.{Point, Circle, Arc}
 use Rattle.layout.specs.declared.Layout.{Layout}
@@ -15,17 +15,16 @@ use Rattle.layout.specs.declared.Place.{Place}
 use Rattle.layout.specs.declared.Place.the-variants.{At, Not}
 use Rattle.layout.specs.Slots.{sizeOf, shapesIn, withOne, slotCount, slotOf, stageNumber, stageDue, mostShapes, idsEnd}
 use Rattle.layout.specs.Steps.{Small, nextAfter}
-use Rattle.layout.specs.declared.Stage.{Stage}
 use Rattle.layout.specs.declared.Stepped.the-variants as S
 use Rattle.layout.specs.declared.Pushed.{Pushed}
 use Rattle.layout.specs.declared.Pushed.the-variants as P
 use Rattle.refusal.specs.declared.Refusal.{Refusal}
-use Rattle.refusal.specs.First.{lowest, first, once, passed, answered}
+use Rattle.refusal.specs.First.{passed, answered}
 use Rattle.refusal.specs.Refusal.{refusal}
-use Rattle.refusal.proofs.Once.{clear-passes, passed-clear, answered-pair}
-use Rattle.layout.specs.Push.{State, state, over, onward, toldIn, filled, pushed, Fills, stageAfter, doneOf}
-use Rattle.layout.specs.Refusals.{Reason, reasonNumber, cannot-be, wrong-stage, full, short, few-ids, no-shape, pushOrder, doneOrder, lookOrder, Rising, impossible, barsPush, barsDone, barsLook, pushTold, doneTold, lookTold}
-use Rattle.layout.proofs.Placed.{as-refused, is-passed, the-place, as-found}
+use Rattle.refusal.proofs.Once.{Clear, clear-passes, passed-clear, answered-first, answered-pair}
+use Rattle.layout.specs.Push.{State, over, onward, toldIn, filled, pushed, Fills, doneOf}
+use Rattle.layout.specs.Refusals.{Reason, reasonNumber, pushOrder, doneOrder, lookOrder, Rising, impossible, barsPush, barsDone, barsLook, pushTold, doneTold, lookTold}
+use Rattle.layout.proofs.Placed.{as-refused, placed}
 
 -- what holds of each kind holds of any
 pub by-kind : (P : ShapeKind → Type 0) → P Point → P Circle → P Arc → (k : ShapeKind) → P k
@@ -36,7 +35,7 @@ by-kind P p c a Arc = a
 -- ---- a layout that can be
 
 neither : (a b : Bool) → (a || b) ≡ false → (a ≡ false) × (b ≡ false)
-neither true b e = let z : _≡_ {A = ℕ} 0 1 = cc in absurd (omega arith)
+neither true b e = (cc, cc)
 neither false b e = (refl, e)
 
 never-early : (m stage due : ℕ) → (0 < m → due ≤ stage) → (ltb 0 m && ltb stage due) ≡ false
@@ -64,43 +63,25 @@ small l e =
 pub count-small : (k : ShapeKind) (l : Layout) → Small l → shapesIn k l ≤ mostShapes
 count-small k l s = by-kind (λ k. shapesIn k l ≤ mostShapes) (s .points) (s .circles) (s .arcs) k
 
--- ---- a push
-
 -- the refusal that tells a reason
-abbrev pub told : Reason → Refusal
+abbrev told : Reason → Refusal
 told r = refusal (reasonNumber r) 0
 
-module _ (k : ShapeKind) (l : Layout) (next ids values : ℕ) where
-  abbrev PushTold : Place → Type 0
-  PushTold p = p ≡ answered reasonNumber Not (pushTold k l next ids values) (At (slotCount l))
+-- ---- a push
 
-  pub push-impossible : impossible l ≡ true → PushTold (Not (told cannot-be))
-  unfolding answered pushTold once first lowest
-  push-impossible e = rw e
+-- a test for another stage, at the stage that is due and at another
+pub at-stage : (a b : ℕ) → a ≡ b → not (eqb a b) ≡ false
+at-stage a b e = rw (eq-eqb a b e)
 
-  module _ (possible : impossible l ≡ false) where
-    pub push-wrong-stage : (stageNumber (l .stage) ≡ stageDue k → ⊥) → PushTold (Not (told wrong-stage))
-    unfolding answered pushTold once first lowest
-    push-wrong-stage s = rw (possible, ne-eqb _ _ s)
+pub off-stage : (a b : ℕ) → (a ≡ b → ⊥) → not (eqb a b) ≡ true
+off-stage a b f = rw (ne-eqb a b f)
 
-    module _ (due : stageNumber (l .stage) ≡ stageDue k) where
-      pub push-full : mostShapes ≤ shapesIn k l → PushTold (Not (told full))
-      unfolding answered pushTold once first lowest
-      push-full f = rw (possible, eq-eqb _ _ due, le-leb _ _ f)
-
-      module _ (room : shapesIn k l < mostShapes) where
-        pub push-short : (ltb ids (slotCount l + sizeOf k) || ltb values (slotCount l + sizeOf k)) ≡ true → PushTold (Not (told short))
-        unfolding answered pushTold once first lowest
-        push-short s = rw (possible, eq-eqb _ _ due, lt-leb _ _ room, s)
-
-        module _ (long : (ltb ids (slotCount l + sizeOf k) || ltb values (slotCount l + sizeOf k)) ≡ false) where
-          pub push-no-ids : idsEnd - next < sizeOf k → PushTold (Not (told few-ids))
-          unfolding answered pushTold once first lowest
-          push-no-ids n = rw (possible, eq-eqb _ _ due, lt-leb _ _ room, long, lt-ltb _ _ n)
-
-          pub push-at : (at : ℕ) → at ≡ slotCount l → sizeOf k ≤ idsEnd - next → PushTold (At at)
-          unfolding answered pushTold once first lowest
-          push-at at e n = rw (possible, eq-eqb _ _ due, lt-leb _ _ room, long, le-ltb _ _ n) (ap At e)
+-- the first of the tests that passes is told
+pub push-first : (k : ShapeKind) (l : Layout) (next ids values : ℕ) (before : List Reason) (r : Reason) (after : List Reason) → pushOrder ≡ before ++ (r ∷ after)
+    → Clear before (barsPush k l next ids values) → barsPush k l next ids values r ≡ true
+    → Not (told r) ≡ answered reasonNumber Not (pushTold k l next ids values) (At (slotCount l))
+unfolding pushTold
+push-first k l next ids values before r after o c t = rw o (answered-first reasonNumber Not _ (barsPush k l next ids values) before r after c t)
 
 -- what is known where a shape is taken
 pub record Fits (k : ShapeKind) (l : Layout) (next ids values : ℕ) : Type 0 where
@@ -116,18 +97,18 @@ unfolding pushTold
 fits k l next ids values e =
     let c = passed-clear (barsPush k l next ids values) pushOrder e in
     let long = neither (ltb ids (slotCount l + sizeOf k)) (ltb values (slotCount l + sizeOf k)) (c .1 .1 .1 .0) in
-    record {
-      counts = small l (c .0);
-      due = eqb-true _ _ (not-false _ (c .1 .0));
-      room = leb-false _ _ (c .1 .1 .0);
-      in-ids = ltb-false _ _ (long .0);
-      in-values = ltb-false _ _ (long .1);
-      left = ltb-false _ _ (c .1 .1 .1 .1 .0);
-    }
+    let due : stageNumber (l .stage) ≡ stageDue k = eqb-true _ _ (not-false _ (c .1 .0)) in
+    omega (arith, small l (c .0), leb-false, ltb-false)
+
+-- where no test passes a push is taken
+pub push-passes : (k : ShapeKind) (l : Layout) (next ids values : ℕ) → Clear pushOrder (barsPush k l next ids values) → pushTold k l next ids values ≡ passed
+unfolding pushTold
+push-passes k l next ids values c = clear-passes (barsPush k l next ids values) pushOrder c
 
 pub fits-passes : (k : ShapeKind) (l : Layout) (next ids values : ℕ) → impossible l ≡ false → Fits k l next ids values → pushTold k l next ids values ≡ passed
-unfolding pushTold
-fits-passes k l next ids values e f = clear-passes (barsPush k l next ids values) pushOrder (e, (rw (eq-eqb _ _ (f .due)), (lt-leb _ _ (f .room), (rw (le-ltb _ _ (f .in-ids), le-ltb _ _ (f .in-values)), (le-ltb _ _ (f .left), tt)))))
+fits-passes k l next ids values e f =
+    push-passes k l next ids values
+    (e, (at-stage _ _ (f .due), (lt-leb _ _ (f .room), (rw (le-ltb _ _ (f .in-ids), le-ltb _ _ (f .in-values)), (le-ltb _ _ (f .left), tt)))))
 
 module _ (k : ShapeKind) (vs : List Float) (s : State) (place : Place) (asked : place ≡ answered reasonNumber Not (toldIn k s) (At (slotCount (s .layout)))) where
   -- a refusal of the place is one of the push, which changes nothing
@@ -140,79 +121,34 @@ module _ (k : ShapeKind) (vs : List Float) (s : State) (place : Place) (asked : 
   pub push-filled : (at : ℕ) → place ≡ At at → (l : Layout) (ids : List ℕ) (values : List Float)
       → l ≡ withOne k (s .layout) → ids ≡ over (s .ids) at (onward (s .next) (length vs)) → values ≡ over (s .values) at vs
       → Fills k vs s (P.Good l (s .next + length vs)) ids values
+  unfolding answered
   push-filled at e l ids values l-is ids-is values-is =
-      let same : filled k vs s ≡ pushed k vs s = as-found _ _ _ asked at e (λ r. s) (filled k vs s) in
-      let here = the-place _ _ _ asked at e in
-      record {
-        answer = rw l-is (as-found _ _ _ asked at e _ _);
-        ids-are = ids-is ∙ rw here (ap (λ (z : State). z .ids) same);
-        values-are = values-is ∙ rw here (ap (λ (z : State). z .values) same);
-      }
-
--- an answer with a layout is no refusal
-pushed-good : (l : Layout) (n : ℕ) (r : Refusal) → P.Refused r ≡ P.Good l n → ⊥
-pushed-good l n r e = let z : _≡_ {A = ℕ} 0 1 = cc in omega arith
-
--- a good answer and the slices are the state after the push
-pub good-state : (k : ShapeKind) (vs : List Float) (s : State) (l : Layout) (n : ℕ) (ids : List ℕ) (values : List Float) → Fills k vs s (P.Good l n) ids values → state l n ids values ≡ pushed k vs s
-good-state k vs s l n ids values f =
-    answered-pair reasonNumber (λ (z : Pushed) (t : State). P.Good l n ≡ z → ids ≡ t .ids → values ≡ t .values → state l n ids values ≡ t) _ _ (toldIn k s) _ _
-    (λ r e i v. absurd (pushed-good l n r (sym e))) (λ c e i v. let a : l ≡ withOne k (s .layout) = cc in let b : n ≡ s .next + length vs = cc in rw (a, b, i, v))
-    (f .answer) (f .ids-are) (f .values-are)
-
--- a refused push leaves all as it was
-pub refused-state : (k : ShapeKind) (vs : List Float) (s : State) (r : Refusal) (ids : List ℕ) (values : List Float) → Fills k vs s (P.Refused r) ids values → s ≡ pushed k vs s
-refused-state k vs s r ids values f = answered-pair reasonNumber (λ (z : Pushed) (t : State). P.Refused r ≡ z → s ≡ t) _ _ (toldIn k s) _ _ (λ r′ e. refl) (λ c e. absurd (pushed-good _ _ r e)) (f .answer)
+      let here = placed (toldIn k s) (slotCount (s .layout)) place asked at e in
+      record { answer = cc; ids-are = cc; values-are = cc }
 
 -- the next id that an answer says is the state's
 pub next-is : (k : ShapeKind) (vs : List Float) (s : State) (r : Pushed) (ids : List ℕ) (values : List Float) → Fills k vs s r ids values → nextAfter r (s .next) ≡ pushed k vs s .next
 next-is k vs s r ids values f = ap (λ (z : Pushed). nextAfter z (s .next)) (f .answer) ∙ answered-pair reasonNumber (λ (z : Pushed) (t : State). nextAfter z (s .next) ≡ t .next) _ _ (toldIn k s) _ _ (λ r. refl) (λ c. refl)
 
 -- ---- `done`
-module _ (l : Layout) where
-  pub done-impossible : impossible l ≡ true → S.Refused (told cannot-be) ≡ doneOf l
-  unfolding answered doneOf doneTold once first lowest
-  done-impossible e = rw e
 
-  pub done-wrong-stage : impossible l ≡ false → stageNumber (l .stage) ≡ 3 → S.Refused (told wrong-stage) ≡ doneOf l
-  unfolding answered doneOf doneTold once first lowest
-  done-wrong-stage e s = rw (e, eq-eqb _ _ s)
-
-  pub done-good : (s : Stage) → s ≡ stageAfter (l .stage) → impossible l ≡ false → (stageNumber (l .stage) ≡ 3 → ⊥)
-      → S.Good (record { points = l .points; circles = l .circles; arcs = l .arcs; stage = s }) ≡ doneOf l
-  unfolding answered doneOf doneTold once first lowest
-  done-good s h e n = rw (e, ne-eqb _ _ n, h)
+-- the first of the tests that passes is told
+pub done-first : (l : Layout) (before : List Reason) (r : Reason) (after : List Reason) → doneOrder ≡ before ++ (r ∷ after)
+    → Clear before (barsDone l) → barsDone l r ≡ true → S.Refused (told r) ≡ doneOf l
+unfolding doneOf doneTold
+done-first l before r after o c t = rw o (answered-first reasonNumber S.Refused _ (barsDone l) before r after c t)
 
 pub done-passes : (l : Layout) → impossible l ≡ false → (stageNumber (l .stage) ≡ 3 → ⊥) → doneTold l ≡ passed
 unfolding doneTold
 done-passes l e n = clear-passes (barsDone l) doneOrder (e, (ne-eqb _ _ n, tt))
 
 -- ---- a lookup
-module _ (k : ShapeKind) (l : Layout) (len i : ℕ) where
-  abbrev LookTold : Place → Type 0
-  LookTold p = p ≡ answered reasonNumber Not (lookTold k l len i) (At (slotOf k l i))
 
-  -- a place that is refused is a refusal of what asked for it
-  pub look-refused : {A : Type 0} (refuse : Refusal → A) (good : A) (r : Refusal) → LookTold (Not r) → refuse r ≡ answered reasonNumber refuse (lookTold k l len i) good
-  look-refused refuse good r e = as-refused _ _ _ e refuse good r refl
-
-  pub look-impossible : impossible l ≡ true → LookTold (Not (told cannot-be))
-  unfolding answered lookTold once first lowest
-  look-impossible e = rw e
-
-  module _ (possible : impossible l ≡ false) where
-    pub look-short : len < slotCount l → LookTold (Not (told short))
-    unfolding answered lookTold once first lowest
-    look-short s = rw (possible, lt-ltb _ _ s)
-
-    module _ (long : slotCount l ≤ len) where
-      pub look-no-shape : shapesIn k l ≤ i → LookTold (Not (told no-shape))
-      unfolding answered lookTold once first lowest
-      look-no-shape n = rw (possible, le-ltb _ _ long, le-leb _ _ n)
-
-      pub look-at : (at : ℕ) → at ≡ slotOf k l i → i < shapesIn k l → LookTold (At at)
-      unfolding answered lookTold once first lowest
-      look-at at e n = rw (possible, le-ltb _ _ long, lt-leb _ _ n) (ap At e)
+-- the first of the tests that passes is told
+pub look-first : (k : ShapeKind) (l : Layout) (len i : ℕ) (before : List Reason) (r : Reason) (after : List Reason) → lookOrder ≡ before ++ (r ∷ after)
+    → Clear before (barsLook k l len i) → barsLook k l len i r ≡ true → Not (told r) ≡ answered reasonNumber Not (lookTold k l len i) (At (slotOf k l i))
+unfolding lookTold
+look-first k l len i before r after o c t = rw o (answered-first reasonNumber Not _ (barsLook k l len i) before r after c t)
 
 -- the slots of a shape that is counted lie among the layout's
 pub slot-inside : (k : ShapeKind) (l : Layout) (i : ℕ) → i < shapesIn k l → slotOf k l i + sizeOf k ≤ slotCount l
@@ -229,13 +165,11 @@ pub found : (k : ShapeKind) (l : Layout) (len i : ℕ) → lookTold k l len i �
 unfolding lookTold
 found k l len i e =
     let c = passed-clear (barsLook k l len i) lookOrder e in
-    let long = ltb-false _ _ (c .1 .0) in
-    let counted = leb-false _ _ (c .1 .1 .0) in
-    record { counts = small l (c .0); long = long; counted = counted; inside = omega (arith, slot-inside k l i counted) }
+    omega (arith, small l (c .0), ltb-false, leb-false, slot-inside k l i (leb-false _ _ (c .1 .1 .0)))
 
 -- where a shape is found, its slots lie in the slice
 pub look-inside : (k : ShapeKind) (l : Layout) (len i : ℕ) (place : Place) → place ≡ answered reasonNumber Not (lookTold k l len i) (At (slotOf k l i)) → (at : ℕ) → place ≡ At at → at + sizeOf k ≤ len
-look-inside k l len i place asked at e = omega (arith, the-place _ _ _ asked at e, found k l len i (is-passed _ _ _ asked at e))
+look-inside k l len i place asked at e = let p = placed _ _ _ asked at e in omega (arith, found k l len i (p .1))
 
 pub look-passes : (k : ShapeKind) (l : Layout) (len i : ℕ) → impossible l ≡ false → slotCount l ≤ len → i < shapesIn k l → lookTold k l len i ≡ passed
 unfolding lookTold
@@ -244,10 +178,10 @@ look-passes k l len i e h n = clear-passes (barsLook k l len i) lookOrder (e, (l
 -- ---- each order is that of the numbers
 
 pub push-rising : Rising 0 pushOrder
-push-rising = (omega arith, (omega arith, (omega arith, (omega arith, (omega arith, tt)))))
+push-rising = omega arith
 
 pub done-rising : Rising 0 doneOrder
-done-rising = (omega arith, (omega arith, tt))
+done-rising = omega arith
 
 pub look-rising : Rising 0 lookOrder
-look-rising = (omega arith, (omega arith, (omega arith, tt)))
+look-rising = omega arith

@@ -2,13 +2,13 @@
 -- Assumes nothing.
 use mathlib.Core.Path.{_≡_, refl, sym, _∙_, ap}
 use mathlib.Core.Bool.{false}
-use mathlib.Core.List.{List, [], _∷_, _++_, append-assoc, append-nil, map}
+use mathlib.Core.List.{List, [], _∷_, _++_, append-assoc, map}
 use Prim.Native.Nat.{ℕ, zero, suc, _+_, _*_, _≤_, _<_}
 use borrow.Author.Needs.{needs}
 use native.Mathlib.Omega.{arith}
-use native.Mathlib.Nat.{suc-mul, zero-mul, zero-add, add-zero}
-use lib.ListN.{length, getD, set, length-set, length-append, List·getD-append}
-use lib.Seq.{getD-set-same, getD-set-other, getD-append-add}
+use native.Mathlib.Nat.{suc-mul, zero-mul, add-zero}
+use lib.ListN.{length, drop, getD, set, length-set, length-append}
+use lib.Seq.{getD-set-same, getD-set-other, getD-at, getD-append-add}
 use lib.Ieee.{Float, nan}
 use borrow.Author.Count.{below-none, below-more}
 use Rattle.layout.specs.declared.ShapeKind.{ShapeKind}
@@ -29,7 +29,7 @@ use Rattle.layout.specs.declared.PointRead.the-variants as PR
 use Rattle.layout.specs.declared.CircleRead.the-variants as CR
 use Rattle.layout.specs.declared.ArcRead.the-variants as AR
 use Rattle.layout.proofs.Laws.{can-be, slot-inside, look-passes}
-use Rattle.layout.proofs.Runs.{components-length, all-append}
+use Rattle.layout.proofs.Runs.{components-length, all-append, kept}
 use Rattle.layout.proofs.Accepted.{all-in}
 
 -- ---- a part and its slot
@@ -86,11 +86,10 @@ module _ (l : Layout) (values : List Float) (possible : impossible l ≡ false) 
 -- ---- shapes that stand one after the other
 
 -- a shape is read out where its components stand
-shape-there : (shape : Figure) (values : List Float) (at : ℕ) → ((j : ℕ) → j < sizeOf (kindOf shape) → getD values (at + j) nan ≡ getD (components shape) j nan) → shapeAt (kindOf shape) values at ≡ shape
-shape-there (point p) values at h = rw (rw add-zero at (h 0 (omega arith)), h 1 (omega arith))
-shape-there (circle c) values at h = rw (rw add-zero at (h 0 (omega arith)), h 1 (omega arith), h 2 (omega arith))
-shape-there (arc a) values at h =
-    rw (rw add-zero at (h 0 (omega arith)), h 1 (omega arith), h 2 (omega arith), h 3 (omega arith), h 4 (omega arith), h 5 (omega arith))
+shape-there : (shape : Figure) (front rest : List Float) → shapeAt (kindOf shape) (front ++ (components shape ++ rest)) (length front) ≡ shape
+shape-there (point p) front rest = simp (getD-at, getD-append-add)
+shape-there (circle c) front rest = simp (getD-at, getD-append-add)
+shape-there (arc a) front rest = simp (getD-at, getD-append-add)
 
 module _ {X : Type 0} (make : X → Figure) (k : ShapeKind) (is : (x : X) → kindOf (make x) ≡ k) where
   size-of : (x : X) → length (components (make x)) ≡ sizeOf k
@@ -100,23 +99,15 @@ module _ {X : Type 0} (make : X → Figure) (k : ShapeKind) (is : (x : X) → ki
   all-length [] = sym (zero-mul (sizeOf k))
   all-length (x ∷ xs) = length-append (components (make x)) (allComponents (map make xs)) ∙ rw (size-of x, all-length xs, suc-mul (length xs) (sizeOf k)) (omega arith)
 
-  -- component j of shape i, whatever follows
-  all-at : (xs : List X) (rest : List Float) (other : X) (i j : ℕ) → i < length xs → j < sizeOf k → getD (allComponents (map make xs) ++ rest) (i * sizeOf k + j) nan ≡ getD (components (make (getD xs i other))) j nan
-  all-at [] rest other i j h b = absurd (omega arith)
-  all-at (x ∷ xs) rest other zero j h b =
-      rw (zero-mul, zero-add, append-assoc) (List·getD-append (components (make x)) (allComponents (map make xs) ++ rest) nan j (omega (arith, size-of x)))
-  all-at (x ∷ xs) rest other (suc i) j h b =
-      let e : suc i * sizeOf k + j ≡ length (components (make x)) + (i * sizeOf k + j) = rw (size-of x, suc-mul i (sizeOf k)) (omega arith) in
-      rw (e, append-assoc, getD-append-add (components (make x)) (allComponents (map make xs) ++ rest) (i * sizeOf k + j) nan) (all-at xs rest other i j (omega arith) b)
-
   -- shape i of those that stand between a front and a rest
-  shape-read : (front rest values : List Float) (xs : List X) (at : ℕ) (other : X) (i : ℕ) → i < length xs → at ≡ length front + i * sizeOf k
-      → ((j : ℕ) → j < sizeOf k → getD values (at + j) nan ≡ getD (front ++ (allComponents (map make xs) ++ rest)) (at + j) nan) → shapeAt k values at ≡ make (getD xs i other)
-  shape-read front rest values xs at other i h e there =
-      rw (← is (getD xs i other)) (shape-there (make (getD xs i other)) values at (λ j b.
-      let b′ : j < sizeOf k = rw (ap sizeOf (is (getD xs i other))) at b in
-      let e′ : at + j ≡ length front + (i * sizeOf k + j) = omega arith in
-      there j b′ ∙ rw (e′, getD-append-add front (allComponents (map make xs) ++ rest) (i * sizeOf k + j) nan) (all-at xs rest other i j h b′)))
+  shape-read : (xs : List X) (front rest : List Float) (other : X) (i : ℕ) → i < length xs
+      → shapeAt k (front ++ (allComponents (map make xs) ++ rest)) (length front + i * sizeOf k) ≡ make (getD xs i other)
+  shape-read [] front rest other i h = absurd (omega arith)
+  shape-read (x ∷ xs) front rest other zero h = rw (zero-mul, add-zero, append-assoc, ← is x) (shape-there (make x) front (allComponents (map make xs) ++ rest))
+  shape-read (x ∷ xs) front rest other (suc i) h =
+      let at : length front + suc i * sizeOf k ≡ length (front ++ components (make x)) + i * sizeOf k = rw (length-append, size-of x, suc-mul) (omega arith) in
+      rw (at, append-assoc (components (make x)) (allComponents (map make xs)) rest, ← append-assoc front (components (make x)) (allComponents (map make xs) ++ rest))
+      (shape-read xs (front ++ components (make x)) rest other i (omega arith))
 
 -- ---- what was pushed is read out
 module _ (next : ℕ) (ids : List ℕ) (values : List Float) (ps : List Point) (cs : List Circle) (xs : List Arc) (room : RunRoom (state empty next ids values) (length ps) (length cs) (length xs)) where
@@ -138,18 +129,19 @@ module _ (next : ℕ) (ids : List ℕ) (values : List Float) (ps : List Point) (
   long : slotCount l ≤ length (last .values)
   long = omega (arith, counted K.Point, counted K.Circle, counted K.Arc, room .in-values, known .all-laid .values-length)
 
-  grouped : allComponents (shapesOf ps cs xs) ≡ allComponents (map point ps) ++ (allComponents (map circle cs) ++ allComponents (map arc xs))
-  grouped = all-append (map point ps) (map circle cs ++ map arc xs) ∙ rw (all-append (map circle cs) (map arc xs))
+  -- the components of each kind, one after the other, and the rest as it was
+  stored : last .values ≡ allComponents (map point ps)
+      ++ (allComponents (map circle cs) ++ (allComponents (map arc xs) ++ drop (length (allComponents (shapesOf ps cs xs))) values))
+  stored =
+      rw (known .all-taken) at (kept next ids values (runOf ps cs xs) .values-are)
+      ∙ rw (all-append (map point ps) (map circle cs ++ map arc xs), all-append (map circle cs) (map arc xs)) (simp append-assoc)
 
   -- shape i of those of a kind, between a front and a rest
   read-one : {X : Type 0} (make : X → Figure) (k : ShapeKind) → ((x : X) → kindOf (make x) ≡ k) → (front rest : List Float) (ys : List X)
-      → allComponents (shapesOf ps cs xs) ≡ front ++ (allComponents (map make ys) ++ rest) → length front ≡ kindStart k l → length ys ≡ shapesIn k l
+      → last .values ≡ front ++ (allComponents (map make ys) ++ rest) → length front ≡ kindStart k l → length ys ≡ shapesIn k l
       → (i : ℕ) (other : X) → i < length ys → ReadsShape k l (last .values) i × (shapeAt k (last .values) (slotOf k l i) ≡ make (getD ys i other))
   read-one make k is front rest ys e f n i other h =
-      let c : i < shapesIn k l = omega arith in
-      let there : (j : ℕ) → j < sizeOf k → getD (last .values) (slotOf k l i + j) nan ≡ getD (front ++ (allComponents (map make ys) ++ rest)) (slotOf k l i + j) nan
-      = λ j b. known .all-laid .value-at (slotOf k l i + j) (omega (arith, slot-inside k l i c)) ∙ ap (λ (z : List Float). getD z (slotOf k l i + j) nan) e in
-      (reads l (last .values) possible long k i c, shape-read make k is front rest (last .values) ys (slotOf k l i) other i h (omega arith) there)
+      (reads l (last .values) possible long k i (omega arith), rw (e, ← f) (shape-read make k is ys front rest other i h))
 
   pub read-back : ReadBack last ps cs xs
   read-back =
@@ -157,12 +149,12 @@ module _ (next : ℕ) (ids : List ℕ) (values : List Float) (ps : List Point) (
       let m = all-length circle K.Circle (λ c. refl) cs in
       let s = length-append (allComponents (map point ps)) (allComponents (map circle cs)) in
       record {
-        points = λ i other h. let r = read-one point K.Point (λ p. refl) [] _ ps grouped refl (sym (counted K.Point)) i other h in r .0 ∙ ap PR.Found (cc (r .1));
+        points = λ i other h. let r = read-one point K.Point (λ p. refl) [] _ ps stored refl (sym (counted K.Point)) i other h in r .0 ∙ ap PR.Found (cc (r .1));
         circles = λ i other h.
-            let r = read-one circle K.Circle (λ c. refl) (allComponents (map point ps)) _ cs grouped (omega (arith, counted K.Point)) (sym (counted K.Circle)) i other h in
+            let r = read-one circle K.Circle (λ c. refl) (allComponents (map point ps)) _ cs stored (omega (arith, counted K.Point)) (sym (counted K.Circle)) i other h in
             r .0 ∙ ap CR.Found (cc (r .1));
         arcs = λ i other h.
-            let r = read-one arc K.Arc (λ a. refl) (allComponents (map point ps) ++ allComponents (map circle cs)) [] xs (grouped ∙ rw (append-assoc, append-nil))
+            let r = read-one arc K.Arc (λ a. refl) (allComponents (map point ps) ++ allComponents (map circle cs)) _ xs (rw (← append-assoc) at stored)
             (omega (arith, counted K.Point, counted K.Circle)) (sym (counted K.Arc)) i other h in
             r .0 ∙ ap AR.Found (cc (r .1));
       }

@@ -13,7 +13,7 @@ use Rattle.layout.specs.declared.ShapeKind.the-variants as K
 use Rattle.layout.specs.declared.Layout.{Layout}
 use Rattle.layout.specs.Slots.{Figure, point, circle, arc, kindOf, components, sizeOf, shapesIn, slotCount, withOne, empty}
 use Rattle.layout.specs.Refusals.{reasonNumber, doneTold}
-use Rattle.layout.specs.Push.{State, state, over, onward, toldIn, filled, stepped}
+use Rattle.layout.specs.Push.{State, state, onward, toldIn, filled, stepped}
 use Rattle.layout.specs.Run.{Act, push, done, act, takes, run, taken, allComponents, howManyOf, Laid}
 use Rattle.layout.proofs.Onward.{length-onward, getD-onward, onward-add, over-front}
 use Rattle.refusal.proofs.Once.{answered-pair}
@@ -42,9 +42,6 @@ count-more k (point p) l = by-kind (λ k. shapesIn k (withOne K.Point l) ≡ sha
 count-more k (circle c) l = by-kind (λ k. shapesIn k (withOne K.Circle l) ≡ shapesIn k l + howManyOf k (circle c ∷ [])) (omega arith) refl (omega arith) k
 count-more k (arc a) l = by-kind (λ k. shapesIn k (withOne K.Arc l) ≡ shapesIn k l + howManyOf k (arc a ∷ [])) (omega arith) (omega arith) refl k
 
-count-stepped : (k : ShapeKind) (l : Layout) → shapesIn k (stepped l) ≡ shapesIn k l
-count-stepped k l = by-kind (λ k. shapesIn k (stepped l) ≡ shapesIn k l) refl refl refl k
-
 -- ---- what a run keeps
 
 -- the slices in one piece: the ids and the components so far, and the rest as it was
@@ -58,11 +55,6 @@ pub record Kept (first : State) (shapes : List Figure) (s : State) : Type 0 wher
   pub values-length : length (s .values) ≡ length (first .values)
 
 module _ (first : State) where
-  ids-more : (gs vs : List Float) → over (onward (first .next) (length gs) ++ drop (length gs) (first .ids)) (length gs) (onward (first .next + length gs) (length vs)) ≡ onward (first .next) (length (gs ++ vs)) ++ drop (length (gs ++ vs)) (first .ids)
-  ids-more gs vs =
-      over-front (onward (first .next) (length gs)) (onward (first .next + length gs) (length vs)) (first .ids) (length gs) (length-onward (first .next) (length gs))
-      ∙ rw (length-append gs vs, onward-add (first .next) (length gs) (length vs), length-onward (first .next + length gs) (length vs)) refl
-
   -- a push that is taken
   pub kept-filled : (shape : Figure) (xs : List Figure) (s : State) → Kept first xs s → Fits (kindOf shape) (s .layout) (s .next) (length (s .ids)) (length (s .values))
       → Kept first (xs ++ (shape ∷ [])) (filled (kindOf shape) (components shape) s)
@@ -75,22 +67,22 @@ module _ (first : State) where
         counts = λ k. count-more k shape (s .layout) ∙ rw (h .counts k) (sym (many-append k xs (shape ∷ [])));
         slots = rw (e, length-append gs vs, h .slots, n) (sym (slots-more (kindOf shape) (s .layout)));
         next-is = rw (e, length-append gs vs) (omega (arith, h .next-is));
-        ids-are = rw (e, ← h .slots, h .ids-are, h .next-is) (ids-more gs vs);
+        ids-are = rw (e, ← h .slots, h .ids-are, h .next-is)
+            (over-front (onward (first .next) (length gs)) (onward (first .next + length gs) (length vs)) (first .ids) (length gs) (length-onward _ _)
+            ∙ rw (length-append gs vs, onward-add (first .next) (length gs) (length vs), length-onward (first .next + length gs) (length vs)));
         values-are = rw (e, ← h .slots, h .values-are) (over-front gs vs (first .values) (length gs) refl ∙ rw (length-append gs vs) refl);
         ids-length = simp (length-append, length-take, length-drop, length-onward) (omega (arith, n, f .in-ids, h .ids-length));
         values-length = simp (length-append, length-take, length-drop) (omega (arith, n, f .in-values, h .values-length));
       }
 
-  kept-stepped : (xs : List Figure) (s : State) → Kept first xs s → Kept first xs (state (stepped (s .layout)) (s .next) (s .ids) (s .values))
-  kept-stepped xs s h =
-      let c : (k : ShapeKind) → shapesIn k (stepped (s .layout)) ≡ howManyOf k xs = λ k. count-stepped k (s .layout) ∙ h .counts k in
-      search needs
-
   pub kept-act : (a : Act) (xs : List Figure) (s : State) → Kept first xs s → Kept first (xs ++ takes a s) (act a s)
   kept-act (push shape) xs s h =
       answered-pair reasonNumber (λ ys z. Kept first (xs ++ ys) z) _ _ (toldIn (kindOf shape) s) _ _ (λ r. rw append-nil h) (λ c. kept-filled shape xs s h (fits _ _ _ _ _ c))
   kept-act done xs s h =
-      answered-pair reasonNumber (λ (l m : Layout). Kept first (xs ++ []) (state l (s .next) (s .ids) (s .values))) _ (λ r. s .layout) (doneTold (s .layout)) _ (s .layout) (λ r. rw append-nil h) (λ c. rw append-nil (kept-stepped xs s h))
+      let counts = by-kind (λ k. shapesIn k (stepped (s .layout)) ≡ howManyOf k xs) (h .counts K.Point) (h .counts K.Circle) (h .counts K.Arc) in
+      let stays : Kept first xs (state (stepped (s .layout)) (s .next) (s .ids) (s .values)) = search needs in
+      answered-pair reasonNumber (λ (l m : Layout). Kept first (xs ++ []) (state l (s .next) (s .ids) (s .values))) _ (λ r. s .layout) (doneTold (s .layout))
+      _ (s .layout) (λ r. rw append-nil h) (λ c. rw append-nil stays)
 
   pub kept-run : (acts : List Act) (xs : List Figure) (s : State) → Kept first xs s → Kept first (xs ++ taken acts s) (run acts s)
   unfolding run taken
@@ -116,16 +108,9 @@ module _ (first : State) where
         values-length = h .values-length;
       }
 
-none : (k : ShapeKind) → shapesIn k empty ≡ 0
-none = by-kind (λ k. shapesIn k empty ≡ 0) refl refl refl
-
 module _ (next : ℕ) (ids : List ℕ) (values : List Float) where
   pub kept-empty : Kept (state empty next ids values) [] (state empty next ids values)
-  kept-empty = record { counts = none; slots = refl; next-is = omega arith; ids-are = refl; values-are = refl; ids-length = refl; values-length = refl }
+  kept-empty = let c = by-kind (λ k. shapesIn k empty ≡ 0) refl refl refl in search needs
 
   pub kept : (acts : List Act) → Kept (state empty next ids values) (taken acts (state empty next ids values)) (run acts (state empty next ids values))
   kept acts = kept-run (state empty next ids values) acts [] (state empty next ids values) kept-empty
-
-  -- after any run, of the shapes that were taken
-  pub laid : (acts : List Act) → Laid (state empty next ids values) (taken acts (state empty next ids values)) (run acts (state empty next ids values))
-  laid acts = kept-laid _ _ _ (kept acts)

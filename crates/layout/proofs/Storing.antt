@@ -30,10 +30,7 @@ module _ (ids₀ : List ℕ) (values₀ : List Float) (at next : ℕ) (guess : L
     pub values-are : values ≡ paste values₀ at guess i
 
   pub store-start : Storing ids₀ values₀ 0 next
-  store-start =
-      let i = paste-zero ids₀ at (onward next (length guess)) in
-      let v = paste-zero values₀ at guess in
-      search needs
+  store-start = search (needs, paste-zero)
 
   module _ (ids : List ℕ) (values : List Float) (i id : ℕ) (so-far : Storing ids values i id) where
     pub store-turn : at + length guess ≤ length ids₀ → at + length guess ≤ length values₀ → i < length guess → Storing (set ids (at + i) id) (set values (at + i) (getD guess i nan)) (i + 1) (id + 1)

@@ -1,7 +1,6 @@
 pub mod Places
 pub mod Numerals
 pub mod Limits
-pub mod Parts
 pub mod Depth
 pub mod Only
 pub mod Cases

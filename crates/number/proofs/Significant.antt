@@ -11,7 +11,7 @@ use lib.Dec.{eqb}
 use lib.ListN.{length, drop}
 use Rattle.ground.proofs.Pieces.{Each, each-append}
 use Rattle.text.proofs.Laws.{run-each, cond-of}
-use Rattle.number.proofs.Numerals.{digit-least, digit-most}
+use Rattle.number.proofs.Numerals.{digit}
 use Rattle.number.specs.Number.{isDigit, digitsAt, numeral, allDigits, partAt}
 
 -- digits without their leading zeros
@@ -32,34 +32,14 @@ shift m k = rw (pow-succ' 10 k, mul-assoc)
 at-least : (m : ℕ) (l : List ℕ) → m * 10 ^ length l ≤ numeral m l
 unfolding numeral
 at-least m [] = omega arith
-at-least m (d ∷ ds) =
-    rw (shift m (length ds)) (le-trans (mul-le-mul-right (10 ^ length ds) (omega arith)) (at-least (m * 10 + (d - 48)) ds))
+at-least m (d ∷ ds) = rw (shift m (length ds)) (le-trans (mul-le-mul-right (10 ^ length ds) (omega arith)) (at-least (m * 10 + (d - 48)) ds))
 
 below : (m : ℕ) (l : List ℕ) → AllDigits l → numeral m l < (m + 1) * 10 ^ length l
 unfolding numeral
 below m [] h = omega arith
 below m (d ∷ ds) h =
     rw (shift (m + 1) (length ds))
-    (lt-of-lt-of-le (below (m * 10 + (d - 48)) ds (h .1)) (mul-le-mul-right (10 ^ length ds) (omega (arith, digit-most d (h .0)))))
-
--- ---- leading zeros
-
-module _ (d : ℕ) (ds : List ℕ) (n : ℕ) (h : AllDigits (d ∷ ds)) where
-  -- at most n digits write a number below 10^n
-  short-below : suc (length ds) ≤ n → numeral 0 (d ∷ ds) < 10 ^ n
-  unfolding numeral
-  short-below l =
-      let one-digit : 0 * 10 + (d - 48) + 1 ≤ 10 = omega (arith, digit-most d (h .0)) in
-      lt-of-lt-of-le (below (0 * 10 + (d - 48)) ds (h .1))
-      (le-trans (mul-le-mul-right (10 ^ length ds) one-digit) (rw (← pow-succ' 10 (length ds)) (pow-le-pow-right (omega arith) l)))
-
-  -- and where the first is no zero, more than n digits do not
-  long-above : 48 < d → n ≤ length ds → 10 ^ n ≤ numeral 0 (d ∷ ds)
-  unfolding numeral
-  long-above z l =
-      let some : 1 ≤ 0 * 10 + (d - 48) = omega arith in
-      le-trans (pow-le-pow-right (omega arith) l)
-      (le-trans (rw one-mul at (mul-le-mul-right (10 ^ length ds) some)) (at-least (0 * 10 + (d - 48)) ds))
+    (lt-of-lt-of-le (below (m * 10 + (d - 48)) ds (h .1)) (mul-le-mul-right (10 ^ length ds) (omega (arith, digit d (h .0)))))
 
 -- m without its leading zeros has at most n digits exactly if it is below 10^n
 few : (l : List ℕ) (n : ℕ) → AllDigits l → (length (significant l) ≤ n) ↔ (numeral 0 l < 10 ^ n)
@@ -68,7 +48,13 @@ few [] n h = ((λ _. one-le-pow n 10 (omega arith)), (λ _. omega arith))
 few (d ∷ ds) n h =
     cond-of (λ (l : List ℕ). (length l ≤ n) ↔ (numeral 0 (d ∷ ds) < 10 ^ n)) (eqb d 48) (significant ds) (d ∷ ds)
     (λ e. rw (eqb-true d 48 e) (few ds n (h .1)))
-    (λ e. (short-below d ds n h, (λ l. lt-of-not-le (λ f. not-le-of-lt l (long-above d ds n h (omega (arith, digit-least d (h .0), eqb-false d 48 e)) f)))))
+    -- where the first is no zero, more than n digits write at least 10^n
+    (λ e.
+    let first : 1 ≤ 0 * 10 + (d - 48) = omega (arith, digit d (h .0), eqb-false d 48 e) in
+    let long : 10 ^ length ds ≤ numeral 0 (d ∷ ds) = le-trans (rw one-mul at (mul-le-mul-right (10 ^ length ds) first)) (at-least (0 * 10 + (d - 48)) ds) in (
+      (λ l. lt-of-lt-of-le (below 0 (d ∷ ds) h) (rw one-mul (pow-le-pow-right (omega arith) l))),
+      (λ l. lt-of-not-le (λ f. not-le-of-lt l (le-trans (pow-le-pow-right (omega arith) f) long))),
+    ))
 
 -- the digits of a number, before and after its point
 pub few-digits : (s : List ℕ) (first n : ℕ) → (length (significant (allDigits s first)) ≤ n) ↔ (numeral 0 (allDigits s first) < 10 ^ n)

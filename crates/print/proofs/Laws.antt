@@ -1,30 +1,24 @@
 -- The laws of the digits and of their count. Assumes nothing.
-use mathlib.Core.Path.{_≡_, refl, sym}
-use mathlib.Core.List.{List, _∷_, _++_}
+use mathlib.Core.Path.{_≡_, refl}
+use mathlib.Core.List.{List, _++_}
 use Prim.Native.Nat.{ℕ, zero, suc, _+_, _-_, _/_, _%_, _^_, _≤_, _<_}
-use native.Mathlib.Nat.{pow-suc, lt-irrefl}
-use native.Mathlib.Decide.{decLe}
+use native.Mathlib.Nat.{lt-irrefl}
 use native.Mathlib.Omega.{arith}
-use lib.ListN.{length, take, drop, set, length-set, length-append}
-use lib.Seq.{append-snoc, length-take-le, take-at, drop-cons, drop-set-lt, getD-set-same}
+use lib.Dec.{ltb}
+use lib.ListN.{length, take, drop, set, length-take, length-append, length-replicate, replicate-append-replicate}
+use lib.Seq.{append-snoc, length-take-le, take-at, drop-at, set-split}
 use borrow.Author.Tests.{lt-ltb, le-ltb}
+use Rattle.ground.proofs.Lists.{either-le}
 use Rattle.print.specs.Print.{signOf, lastDigits, zeros, mostDigits, widthUpTo, width, decimalOf, digitsOf}
 use Rattle.print.specs.declared.Digits.{Digits}
 
--- ---- lists
-
--- what stands from a place on, once it is written there
-drop-set : (l : List ℕ) (j a : ℕ) → j < length l → drop j (set l j a) ≡ a ∷ drop (suc j) l
-drop-set l j a h =
-    let k : j < length (set l j a) = omega (arith, length-set l j a) in
-    let s : j < suc j = omega arith in
-    rw (drop-cons (set l j a) j 0, getD-set-same l j a 0, drop-set-lt (suc j) l j a)
+-- ---- zeros
 
 -- what is left of zeros
 drop-zeros : (n k : ℕ) → k ≤ n → drop k (zeros n) ≡ zeros (n - k)
-drop-zeros n zero h = let e : n - 0 ≡ n = omega arith in rw e
-drop-zeros zero (suc k) h = absurd (lt-irrefl 0 (omega arith))
-drop-zeros (suc n) (suc k) h = let e : suc n - suc k ≡ n - k = omega arith in rw e (drop-zeros n k (omega arith))
+drop-zeros n k h =
+    let e : k + (n - k) ≡ n = omega arith in
+    rw e at (rw replicate-append-replicate at (drop-at (zeros k) (zeros (n - k)) k (length-replicate k 0)))
 
 -- ---- digits
 
@@ -42,7 +36,7 @@ unfolding lastDigits
 digits-turn base n zero l p h = absurd (lt-irrefl 0 p)
 digits-turn base n (suc j) l p h =
     let e : suc j - 1 ≡ j = omega arith in
-    rw (e, drop-set l j (signOf (n % base))) (append-snoc (lastDigits base j (n / base)) (signOf (n % base)) (drop (suc j) l))
+    rw (e, set-split l j, drop-at (take j l) _ j (length-take-le j l (omega arith)), append-snoc)
 
 -- ---- the count of decimal digits
 
@@ -57,10 +51,7 @@ width-more limit n h = rw (le-ltb n 10 h)
 pub width-most : (limit n : ℕ) → widthUpTo limit n ≤ limit
 unfolding widthUpTo
 width-most zero n = omega arith
-width-most (suc limit) n = elim (decLe 10 n) [
-  | yes h ↦ omega (arith, width-more limit n h, width-most limit (n / 10))
-  | no f ↦ omega (arith, width-one limit n (omega arith))
-]
+width-most (suc limit) n = either-le (ltb n 10) 1 (suc (widthUpTo limit (n / 10))) (suc limit) (omega arith) (omega (arith, width-most limit (n / 10)))
 
 -- what holds while digits are counted: k of them, the last of which is the rest's last, and at most `left` more
 pub record Counting (n rest k : ℕ) : Type 0 where
@@ -68,9 +59,6 @@ pub record Counting (n rest k : ℕ) : Type 0 where
   pub room : k + left ≡ mostDigits
   pub small : rest < 10 ^ suc left
   pub total : width n + 1 ≡ k + widthUpTo (suc left) rest
-
-pub count-start : (n : ℕ) → n < 10 ^ mostDigits → Counting n n 1
-count-start n h = record { left = 19; room = refl; small = h; total = omega arith }
 
 pub count-turn : (n rest k : ℕ) → Counting n rest k → 10 ≤ rest → Counting n (rest / 10) (k + 1)
 count-turn n rest k c h = go (c .left) (c .room) (c .small) (c .total)
@@ -81,18 +69,11 @@ count-turn n rest k c h = go (c .left) (c .room) (c .small) (c .total)
         record {
           left = g;
           room = omega arith;
-          small = omega (arith, pow-suc 10 (suc g));
+          small = omega arith;
           total = omega (arith, width-more (suc g) rest h);
         }
 
-pub count-end : (n rest k : ℕ) → Counting n rest k → rest < 10 → k ≡ width n
-count-end n rest k c h = omega (arith, c .total, width-one (c .left) rest h)
-
 -- ---- the field of decimal digits
-
--- the part of the field that is filled
-pub field-part : (k : ℕ) → k ≤ mostDigits → k ≡ length (take k (zeros mostDigits))
-field-part k h = sym (length-take-le k (zeros mostDigits) h)
 
 -- digits of the right count, and what is left of a field of zeros after them
 pub field-whole :
@@ -100,15 +81,13 @@ pub field-whole :
     → _≡_ {A = Digits} (record { bytes = l ++ drop k (zeros mostDigits); len = k }) (digitsOf n)
 unfolding digitsOf decimalOf
 field-whole n k l e d =
-    let h : k ≤ mostDigits = omega (arith, e, width-most mostDigits n) in
-    rw (d, ← field-part k h, drop-zeros mostDigits k h, e)
+    let h : k ≤ mostDigits = omega (arith, width-most mostDigits n) in
+    rw (d, length-take-le k (zeros mostDigits), drop-zeros, e)
 
 -- the digits lie in their field, as a caller that takes that part of it asks
 pub field-counts : (n : ℕ) (r : Digits) → r ≡ digitsOf n → (r .len ≤ length (r .bytes)) × (r .len ≡ length (take (r .len) (r .bytes)))
 unfolding digitsOf decimalOf
-field-counts n r e =
-    let inside : width n ≤ length (lastDigits 10 (width n) n ++ zeros (mostDigits - width n)) = simp (length-append, digits-length) (omega arith) in
-    rw e (inside, sym (length-take-le (width n) (lastDigits 10 (width n) n ++ zeros (mostDigits - width n)) inside))
+field-counts n r e = rw e (simp (length-append, digits-length) (omega arith), simp (length-take, length-append, digits-length) (omega arith))
 
 -- the digits of a number are the first bytes of their field
 pub field-first : (n : ℕ) (r : Digits) → r ≡ digitsOf n → take (r .len) (r .bytes) ≡ decimalOf n

@@ -22,27 +22,23 @@ use Rattle.rail.proofs.hex_word.Kinds as hex-word-kinds
 use Rattle.rail.proofs.hex_word.Reads as hex-word
 
 -- two answers, and two buffers
-module _ {write : Bool} {d line v w : List ℕ} {at x y : Place} (p : Prints write d at line x v) (q : Prints write d at line y w) where
-  pub same-answer : x ≡ y
-  same-answer = by-equation (p .told) (q .told)
-
-  pub same-buffer : v ≡ w
-  same-buffer = by-equation (p .buffer) (q .buffer)
+pub same : {write : Bool} {d line v w : List ℕ} {at x y : Place} → Prints write d at line x v → Prints write d at line y w → (x ≡ y) × (v ≡ w)
+same p q = (by-equation (p .told) (q .told), by-equation (p .buffer) (q .buffer))
 
 pub moved-only : Determined 0 moved-kinds.ps moved-kinds.r moved.Post
 moved-only κs a x y e f p q = by-equation p q
 
 pub add-only : Settled (endedOf 2 add-kinds.ps add-kinds.r) add.Post
-add-only κs a x y v w p q = (same-answer p q, λ j. (same-buffer p q j, (tt, (tt, (tt, tt)))))
+add-only κs a x y v w p q = (same p q .0, λ j. (same p q .1 j, (tt, (tt, (tt, tt)))))
 
 pub word-only : Settled (endedOf 2 word-kinds.ps word-kinds.r) word.Post
-word-only κs a x y v w p q = (same-answer p q, λ j. (same-buffer p q j, (tt, (tt, (tt, tt)))))
+word-only κs a x y v w p q = (same p q .0, λ j. (same p q .1 j, (tt, (tt, (tt, tt)))))
 
 pub decimal-only : Settled (endedOf 1 decimal-kinds.ps decimal-kinds.r) decimal.Post
-decimal-only κs a x y v w p q = (same-answer p q, λ j. (same-buffer p q j, (tt, (tt, (tt, tt)))))
+decimal-only κs a x y v w p q = (same p q .0, λ j. (same p q .1 j, (tt, (tt, (tt, tt)))))
 
 pub decimal-word-only : Settled (endedOf 1 decimal-word-kinds.ps decimal-word-kinds.r) decimal-word.Post
-decimal-word-only κs a x y v w p q = (same-answer p q, λ j. (same-buffer p q j, (tt, (tt, (tt, tt)))))
+decimal-word-only κs a x y v w p q = (same p q .0, λ j. (same p q .1 j, (tt, (tt, (tt, tt)))))
 
 pub hex-word-only : Settled (endedOf 1 hex-word-kinds.ps hex-word-kinds.r) hex-word.Post
-hex-word-only κs a x y v w p q = (same-answer p q, λ j. (same-buffer p q j, (tt, (tt, (tt, tt)))))
+hex-word-only κs a x y v w p q = (same p q .0, λ j. (same p q .1 j, (tt, (tt, (tt, tt)))))

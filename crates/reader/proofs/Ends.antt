@@ -1,10 +1,10 @@
 -- What is told and written when reading has ended. Assumes nothing.
-use mathlib.Core.Path.{_≡_, refl, sym, ap, _∙_}
-use mathlib.Core.Bool.{Bool, true, false, cond, _&&_}
+use mathlib.Core.Path.{_≡_, sym, ap, _∙_}
+use mathlib.Core.Bool.{Bool, cond, _&&_}
 use mathlib.Core.List.{List}
-use Prim.Native.Nat.{ℕ, suc, _+_, _*_, _≤_, _<_}
+use Prim.Native.Nat.{ℕ, _+_, _*_, _≤_}
 use native.Mathlib.Omega.{arith}
-use borrow.Author.Tests.{le-leb, lt-ltb, le-ltb, ltb-false}
+use borrow.Author.Tests.{le-leb, ltb-false}
 use lib.Dec.{ltb}
 use lib.ListN.{length, take, length-append}
 use Rattle.refusal.specs.declared.Refusal.{Refusal}
@@ -13,25 +13,14 @@ use Rattle.text.specs.declared.Stand.the-variants.{At, Nothing, Refused}
 use Rattle.text.proofs.Laws.{cond-of}
 use Rattle.store.specs.Store.{room, written}
 use Rattle.store.proofs.Laws.{written-first}
-use Rattle.record.specs.Record.{recordBytes, mostRecords, recordRoom, longestText, encodeAll}
+use Rattle.record.specs.Record.{recordBytes, mostRecords, recordRoom, encodeAll}
 use Rattle.record.proofs.Back.{count-all}
 use Rattle.reader.specs.declared.Reading.{Reading}
 use Rattle.reader.specs.declared.Reading.the-variants as reading
 use Rattle.forms.specs.Section.{stored}
 use Rattle.forms.proofs.Storing.{stored-all}
-use Rattle.forms.proofs.SoundSection.{lines-due}
-use Rattle.reader.specs.Page.{highAt, refusedBy, endedOf, problemOf, readingOf, recordsIn, writtenBy, bufferAfter, Reads}
+use Rattle.reader.specs.Page.{endedOf, pageOf, problemOf, readingOf, recordsIn, writtenBy, bufferAfter, Reads}
 use Rattle.reader.specs.Steps.{Paged, toldRecords, Ended}
-
--- ---- how many records a page can have
-
-pub instructions-few : (s : List ℕ) → length (problemOf s .instructions) ≤ 2 * suc (length s)
-unfolding problemOf
-instructions-few s = lines-due s false _ 4 .few
-
-pub guesses-few : (s : List ℕ) → length (problemOf s .guesses) ≤ 2 * suc (length s)
-unfolding problemOf
-guesses-few s = lines-due s true _ 7 .few
 
 -- ---- a good answer says that reading ended at a place, and that there is room
 
@@ -66,49 +55,32 @@ module _ (whole : Bool) (s d zeros own : List ℕ) (i g : ℕ) (then : Stand) (p
   abbrev copied : Reading → List ℕ
   copied r = take (recordBytes * toldRecords r) own
 
+  told-is : (r : Reading) → r ≡ endedOf whole (length s) i g (length d) then → r ≡ pageOf whole s (problemOf s) (length d)
+  told-is r h = rw (← p .then-is, ← p .instructions-are, ← p .guesses-are) h
+
   -- no more records are told than there is room for
   pub few : (r : Reading) → r ≡ endedOf whole (length s) i g (length d) then → toldRecords r ≤ mostRecords
-  few (reading.Good a b e) h =
-      let w = good-says whole (length s) i g (length d) a b e then (sym h) in
-      omega (arith, w .few, w .instructions-are, w .guesses-are)
+  few (reading.Good a b e) h = let w = good-says whole (length s) i g (length d) a b e then (sym h) in omega arith
   few (reading.Refused why) h = omega arith
 
-  -- what is copied is what a good reading writes
-  buffer-is : (r : Reading) (d′ : List ℕ) → r ≡ endedOf whole (length s) i g (length d) then → d′ ≡ cond (room d 0 (copied r)) (written d 0 (copied r)) d
-      → d′ ≡ writtenBy r (recordsIn s) d
+  -- what is told is told of the page, and what is copied is what a good reading writes
+  pub ended : (r : Reading) (d′ : List ℕ) → r ≡ endedOf whole (length s) i g (length d) then
+      → d′ ≡ cond (room d 0 (copied r)) (written d 0 (copied r)) d → Ended whole s d r d′
   unfolding written
-  buffer-is (reading.Good a b e) d′ h c =
+  ended (reading.Good a b e) d′ h c =
       let w = good-says whole (length s) i g (length d) a b e then (sym h) in
       let rs = recordsIn s in
-      let count : length rs ≡ a + b
-      = omega (arith, length-append (problemOf s .instructions) (problemOf s .guesses), p .instructions-are, p .guesses-are, w .instructions-are, w .guesses-are) in
-      let long : recordBytes * (a + b) ≡ length (encodeAll rs) = omega (arith, count-all rs, count) in
-      let all : stored zeros 0 rs ≡ written zeros 0 (encodeAll rs) = stored-all zeros 0 rs (omega (arith, count, w .few, w .instructions-are, w .guesses-are)) in
+      let size-is = count-all rs in
+      let count : length rs ≡ a + b = omega (arith, length-append (problemOf s .instructions) (problemOf s .guesses)) in
+      let long : recordBytes * (a + b) ≡ length (encodeAll rs) = omega arith in
+      let all : stored zeros 0 rs ≡ written zeros 0 (encodeAll rs) = stored-all zeros 0 rs (omega arith) in
       let bytes-are : take (recordBytes * (a + b)) own ≡ encodeAll rs = rw (p .buffer, all, long) (written-first zeros (encodeAll rs)) in
-      let fits : 0 + length (encodeAll rs) ≤ length d = omega (arith, count, count-all rs, w .room-for, w .instructions-are, w .guesses-are) in
-      let plain : 0 + length (encodeAll rs) ≡ recordBytes * length rs = omega (arith, count-all rs) in
-      c ∙ rw (bytes-are, le-leb (0 + length (encodeAll rs)) (length d) fits, plain)
-  buffer-is (reading.Refused why) d′ h c = c ∙ rw (le-leb 0 (length d) (omega arith))
+      let plain : 0 + length (encodeAll rs) ≡ recordBytes * length rs = omega arith in
+      record { told = told-is _ h; buffer = c ∙ rw (bytes-are, le-leb (0 + length (encodeAll rs)) (length d) (omega arith), plain) }
+  ended (reading.Refused why) d′ h c = record { told = told-is _ h; buffer = c ∙ rw (le-leb 0 (length d) (omega arith)) }
 
-  pub ended : (r : Reading) (d′ : List ℕ) → r ≡ endedOf whole (length s) i g (length d) then → d′ ≡ cond (room d 0 (copied r)) (written d 0 (copied r)) d → Ended whole s d r d′
-  ended r d′ h c = record { told = rw (← p .then-is, ← p .instructions-are, ← p .guesses-are) h; buffer = buffer-is r d′ h c }
+-- ---- what a reading tells and writes
 
--- ---- 1 and 2, and then what reading gives
-
-module _ (whole : Bool) (s d : List ℕ) where
-  reads-by : (r : Reading) (d′ : List ℕ) → r ≡ readingOf whole s (length d) → d′ ≡ writtenBy r (recordsIn s) d → Reads whole s d r d′
-  unfolding bufferAfter
-  reads-by r d′ e f = record { told = e; buffer = rw (← e) f }
-
-  pub too-long : longestText < length s → Reads whole s d (refusedBy 1 0) d
-  unfolding readingOf
-  too-long h = reads-by (refusedBy 1 0) d (rw (lt-ltb longestText (length s) h)) refl
-
-  module _ (short : length s ≤ longestText) where
-    pub high : (place : ℕ) → place ≡ highAt s → place < length s → Reads whole s d (refusedBy 2 place) d
-    unfolding readingOf
-    high place e h = reads-by (refusedBy 2 place) d (rw (le-ltb longestText (length s) short, ← e, lt-ltb place (length s) h)) refl
-
-    pub read : (place : ℕ) (r : Reading) (d′ : List ℕ) → place ≡ highAt s → length s ≤ place → Ended whole s d r d′ → Reads whole s d r d′
-    unfolding readingOf
-    read place r d′ e h k = reads-by r d′ (rw (le-ltb longestText (length s) short, ← e, le-ltb place (length s) h) (k .told)) (k .buffer)
+pub reads-by : {whole : Bool} {s d d′ : List ℕ} {r : Reading} → r ≡ readingOf whole s (length d) → d′ ≡ writtenBy r (recordsIn s) d → Reads whole s d r d′
+unfolding bufferAfter
+reads-by e f = record { told = e; buffer = rw (← e) f }

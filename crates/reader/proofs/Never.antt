@@ -47,21 +47,15 @@ module _ (s : List ℕ) where
       from-of (λ (x : Lines). Some (x .then)) (due t (lineOn g s t .then) number) _ _
       (due-some (λ u. lineOn g s u .then) number (line-refused s g) t h) (λ next e. rest-some (length s) g next)
 
-  end-some : (t : Stand) → Some t → Some (wsOn s (optNewlineOn s t))
-  unfolding optNewlineOn wsOn
-  end-some t h =
-      let u = orStand (newlineOn s t) (newlineOn s t) t in
-      from-of Some u u _ (either-some (newlineOn s t) t h) (λ n e. tt)
-
-  gap-some : (t : Stand) → Some t → Some (due t (newlineOn s (newlineOn s t)) 5)
-  unfolding byteOn
-  gap-some t h = due-some (λ u. newlineOn s (newlineOn s u)) 5 (λ why. refl) t h
-
-  heading-some : (t : Stand) → Some t → Some (due t (headingOn s (wsOn s t) (bytes "guesses")) 6)
-  unfolding headingOn byteOn wordOn wsOn
-  heading-some t h = due-some (λ u. headingOn s (wsOn s u) (bytes "guesses")) 6 (λ why. refl) t h
-
   pub never-nothing : Some (problemOf s .then)
-  unfolding problemOf
+  unfolding problemOf optNewlineOn headingOn byteOn wordOn wsOn
   never-nothing =
-      end-some _ (lines-some true 7 _ (heading-some _ (gap-some _ (lines-some false 4 _ (either-some (headingOn s (At 0) (bytes "constraints")) (refusedAt 3 0) tt)))))
+      let top = due (At 0) (headingOn s (At 0) (bytes "constraints")) 3 in
+      let is = linesOn false s top 4 .then in
+      let gap = due is (newlineOn s (newlineOn s is)) 5 in
+      let next = due gap (headingOn s (wsOn s gap) (bytes "guesses")) 6 in
+      let gs = linesOn true s next 7 .then in
+      let some-is = lines-some false 4 top (either-some (headingOn s (At 0) (bytes "constraints")) (refusedAt 3 0) tt) in
+      let some-gap = due-some (λ u. newlineOn s (newlineOn s u)) 5 (λ why. refl) is some-is in
+      let some-next = due-some (λ u. headingOn s (wsOn s u) (bytes "guesses")) 6 (λ why. refl) gap some-gap in
+      from-of Some (optNewlineOn s gs) (optNewlineOn s gs) _ (either-some (newlineOn s gs) gs (lines-some true 7 next some-next)) (λ n e. tt)

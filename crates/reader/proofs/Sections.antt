@@ -20,24 +20,23 @@ use Rattle.reader.specs.Steps.{Paged}
 
 module _ (s : List ℕ) (short : length s ≤ longestText) where
   -- a section of a text that is not too long
-  lines-read : (d : List ℕ) (n : ℕ) (guesses : Bool) (t : Stand) (number : ℕ) (x : Count) (d′ : List ℕ)
-      → SectionRead d n (sectionOn guesses s t number) x d′ → SectionRead d n (linesOn guesses s t number) x d′
+  section-is : (guesses : Bool) (t : Stand) (number : ℕ) → sectionOn guesses s t number ≡ linesOn guesses s t number
   unfolding sectionOn
-  lines-read d n guesses t number x d′ r = rw (le-ltb longestText (length s) short) at r
+  section-is guesses t number = rw (le-ltb longestText (length s) short)
 
   module _ (h : Stand) (d d₁ : List ℕ) (x : Count) (first : SectionRead d 0 (sectionOn false s h 4) x d₁) where
     is : SectionRead d 0 (linesOn false s h 4) x d₁
-    is = lines-read d 0 false h 4 x d₁ first
+    is = rw (section-is false h 4) at first
 
     -- it has two records a line at most
     pub few : x .count ≤ 2 * suc (length s)
-    few = omega (arith, is .count-is, lines-due s false h 4 .few)
+    few = omega (arith, is .count-is, lines-due s false h 4 .sound .few)
 
     module _ (g : Stand) (d₂ : List ℕ) (y : Count) (second : SectionRead d₁ (x .count) (sectionOn true s g 7) y d₂)
         (h-is : h ≡ due (At 0) (headingOn s (At 0) (bytes "constraints")) 3)
         (g-is : g ≡ due (due (x .then) (newlineOn s (newlineOn s (x .then))) 5) (headingOn s (wsOn s (due (x .then) (newlineOn s (newlineOn s (x .then))) 5)) (bytes "guesses")) 6) where
       gs : SectionRead d₁ (x .count) (linesOn true s g 7) y d₂
-      gs = lines-read d₁ (x .count) true g 7 y d₂ second
+      gs = rw (section-is true g 7) at second
 
       problem-is : problemOf s ≡ record { instructions = linesOn false s h 4 .records; guesses = linesOn true s g 7 .records; then = wsOn s (optNewlineOn s (y .then)) }
       unfolding problemOf

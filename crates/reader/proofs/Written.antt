@@ -1,7 +1,7 @@
 -- Every record that a reading writes fits its bytes, so that it comes back whole from them: its labels lie in a text that is not too
 -- long, and what its kind has no bytes for is 0. Assumes nothing.
 use mathlib.Core.Path.{_≡_, refl, sym, _∙_}
-use mathlib.Core.Bool.{Bool, true, not, cond}
+use mathlib.Core.Bool.{Bool, not, cond}
 use mathlib.Core.List.{List}
 use Prim.Native.Nat.{ℕ, _≤_, _<_}
 use native.Mathlib.Omega.{arith}
@@ -9,12 +9,11 @@ use native.Mathlib.Decide.{decLt}
 use lib.Dec.{leb, eqb}
 use lib.ListN.{length, getD}
 use Rattle.ground.proofs.Lists.{getD-inside}
-use Rattle.refusal.specs.First.{allBelow}
 use Rattle.refusal.proofs.Says.{says-so, says-not, says-eq, says-le, says-cond, says-all}
 use Rattle.record.specs.Kinds.{kinds, kindAt, pair}
-use Rattle.record.specs.Record.{labelPlaces, longestText, firstGuess, encodeAll}
-use Rattle.record.specs.Decode.{Short, Fits, noRecord, decodeAt}
-use Rattle.record.specs.Entry.{viewOf, named, entryOf}
+use Rattle.record.specs.Record.{longestText, firstGuess, encodeAll}
+use Rattle.record.specs.Decode.{Fits, noRecord, decodeAt}
+use Rattle.record.specs.Entry.{named, entryOf}
 use Rattle.record.specs.declared.Record.{Record}
 use Rattle.record.proofs.Back.{decode-all}
 use Rattle.ground.proofs.UpTo.{length-up-to}
@@ -26,23 +25,13 @@ use Rattle.reader.proofs.SoundPage.{record-at}
 abbrev shaped : ℕ → Bool
 shaped k = cond (leb firstGuess k) (eqb (kindAt k .labels) 1) (not (eqb (kindAt k .number) pair))
 
-all-shaped : allBelow (length kinds) shaped ≡ true
-all-shaped = refl
-
 module _ (s : List ℕ) (short : length s ≤ longestText) (guess : Bool) (r : Record) (p : Proper s guess r) where
-  label-short : (q : ℕ) → q < labelPlaces → Short (viewOf r q)
-  label-short q h =
-      elim (decLt q (r .count)) [
-        | yes a ↦ (let e = p .placed q h .used a in record { start-fits = omega arith; len-fits = omega arith })
-        | no a ↦ rw (p .placed q h .unused (omega (arith, a))) (record { start-fits = omega arith; len-fits = omega arith })
-      ]
-
   shape : (firstGuess ≤ r .kind → r .count ≡ 1) × ((firstGuess ≤ r .kind → ⊥) → kindAt (r .kind) .number ≡ pair → ⊥)
   unfolding entryOf
   shape =
       let n = length-up-to (r .count) (named s r) in
       let w = says-cond (says-le firstGuess (r .kind)) (says-eq (kindAt (r .kind) .labels) 1) (says-not (says-eq (kindAt (r .kind) .number) pair))
-      .so (says-all shaped _ (λ k. says-so) (length kinds) .so all-shaped (r .kind) (p .sound .known .1)) in
+      .so (says-all shaped _ (λ k. says-so) (length kinds) .so refl (r .kind) (p .sound .known .1)) in
       (λ g. sym n ∙ p .sound .count ∙ w .0 g, w .1)
 
   -- a place that its form does not have lies behind the one label of a guess
@@ -51,8 +40,11 @@ module _ (s : List ℕ) (short : length s ≤ longestText) (guess : Bool) (r : R
   proper-fits =
       record {
         places = p .places;
-        short = label-short;
-        absent = λ g q h b. p .placed q h .unused (omega (arith, shape .0 g, b));
+        short = λ q h. elim (decLt q (r .count)) [
+          | yes a ↦ (let e = p .placed q h .used a in record { start-fits = omega arith; len-fits = omega arith })
+          | no a ↦ rw (p .placed q h .unused (omega (arith, a))) (record { start-fits = omega arith; len-fits = omega arith })
+        ];
+        absent = λ g q h b. p .placed q h .unused (omega (arith, shape .0 g));
         x-fits = p .x-fits;
         y-fits = p .y-fits;
         no-y = λ h. p .sound .no-y (shape .1 (λ g. omega (arith, g, h)));

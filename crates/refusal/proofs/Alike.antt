@@ -6,23 +6,18 @@ use mathlib.Core.List.{List, [], _∷_}
 use Prim.Native.Nat.{ℕ, zero, suc}
 use native.Mathlib.Omega.{arith}
 use Rattle.refusal.specs.First.{EachBelow, anyBelow, lowest, tell, first}
-use Rattle.refusal.proofs.Says.{says-so}
+use Rattle.refusal.proofs.Says.{refuted, says-so}
 use Rattle.refusal.proofs.Search.{Searched, nowhere, searched}
 
 module _ (p q : ℕ → Bool) where
   pub lowest-alike : (n : ℕ) → EachBelow n (λ j. p j ≡ q j) → lowest n p ≡ lowest n q
   unfolding lowest
   lowest-alike zero f = refl
-  lowest-alike (suc n) f = rw (lowest-alike n (λ j h. f j (omega (arith, h))), f n (omega arith))
+  lowest-alike (suc n) f = rw (lowest-alike n (λ j h. f j (omega arith)), f n (omega arith))
 
   pub any-alike : (n : ℕ) → EachBelow n (λ j. p j ≡ q j) → anyBelow n p ≡ anyBelow n q
   any-alike zero f = refl
-  any-alike (suc n) f = rw (any-alike n (λ j h. f j (omega (arith, h))), f n (omega arith))
-
--- what is no true is false
-not-so : (b : Bool) → (b ≡ true → ⊥) → b ≡ false
-not-so true f = absurd (f refl)
-not-so false f = refl
+  any-alike (suc n) f = rw (any-alike n (λ j h. f j (omega arith)), f n (omega arith))
 
 -- no fault
 pub none-alike : {F : Type 0} (t u : F → ℕ → Bool) (n : ℕ) → first [] t n ≡ first [] u n
@@ -38,4 +33,4 @@ first-alike f order t u n same rest =
   where
     go : (o : Option ℕ) → Searched (λ j. t f j ≡ true) n o → tell f o (first order t n) ≡ tell f o (first order u n)
     go (some i) s = refl
-    go none (nowhere g) = rest (λ i h. not-so (t f i) (g i h))
+    go none (nowhere g) = rest (λ i h. refuted says-so (g i h))

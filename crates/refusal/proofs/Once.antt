@@ -1,13 +1,14 @@
 -- What is told of faults that hold at no place of their own, and what is answered by it: each is by the faults in turn, or by the two answers.
 -- Assumes nothing.
 use mathlib.Core.Path.{_≡_, refl}
-use mathlib.Core.Bool.{Bool, true, false, cond}
-use mathlib.Core.Option.{none, some}
-use mathlib.Core.List.{List, [], _∷_}
+use mathlib.Core.Bool.{Bool, true, false}
+use mathlib.Core.List.{List, [], _∷_, _++_}
 use Prim.Native.Nat.{ℕ}
 use native.Mathlib.Omega.{arith}
 use Rattle.refusal.specs.declared.Refusal.{Refusal}
-use Rattle.refusal.specs.First.{lowest, first, Answer, passed, refused, tell, once, answered}
+use Rattle.refusal.specs.First.{lowest, first, Answer, passed, refused, once, answered}
+use Rattle.refusal.specs.Refusal.{refusal}
+use Rattle.refusal.proofs.Says.{refuted, says-so}
 
 -- no test of an order passes
 abbrev pub Clear : {F : Type 0} → List F → (F → Bool) → Type 0
@@ -24,17 +25,22 @@ module _ {F : Type 0} (test : F → Bool) where
   pub passed-clear : (order : List F) → once order test ≡ passed → Clear order test
   unfolding once first lowest
   passed-clear [] e = tt
-  passed-clear (f ∷ order) e = go (test f) refl e (passed-clear order)
-    where
-      go : (b : Bool) → test f ≡ b → tell f (cond b (some 0) none) (once order test) ≡ passed → (once order test ≡ passed → Clear order test) → Clear (f ∷ order) test
-      go true t p rest = let z : _≡_ {A = ℕ} 0 1 = cc in absurd (omega arith)
-      go false t p rest = (t, rest p)
+  passed-clear (f ∷ order) e =
+      let t : test f ≡ false = refuted says-so (λ (h : test f ≡ true). let z : _≡_ {A = ℕ} 0 1 = cc in omega arith) in
+      (t, passed-clear order (rw t at e))
 
 module _ {F A : Type 0} (number : F → ℕ) where
   -- where nothing is told, what is good is answered
   pub answered-passed : (refuse : Refusal → A) (x : Answer F) (good : A) → x ≡ passed → answered number refuse x good ≡ good
   unfolding answered
   answered-passed refuse x good e = rw e
+
+  -- the first fault whose test passes is answered
+  pub answered-first : (refuse : Refusal → A) (good : A) (test : F → Bool) (before : List F) (f : F) (after : List F) → Clear before test → test f ≡ true
+      → refuse (refusal (number f) 0) ≡ answered number refuse (once (before ++ (f ∷ after)) test) good
+  unfolding answered once first lowest
+  answered-first refuse good test [] f after c t = rw t
+  answered-first refuse good test (g ∷ before) f after c t = rw (c .0) (answered-first refuse good test before f after (c .1) t)
 
   -- where what is answered is no refusal, nothing is told
   pub answered-good : (refuse : Refusal → A) (x : Answer F) (good y : A) → ((r : Refusal) → refuse r ≡ y → ⊥) → answered number refuse x good ≡ y → x ≡ passed

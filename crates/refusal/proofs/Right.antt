@@ -10,28 +10,21 @@ use Rattle.refusal.specs.First.{lowest, Answer, passed, refused, tell, f
 use Rattle.refusal.proofs.Says.{Says}
 use Rattle.refusal.proofs.Search.{Searched, at, nowhere, searched, lowest-iff, none-iff}
 
--- what is answered
-data Found {F : Type 0} (Holds : F → ℕ → Type 0) (n : ℕ) (order : List F) : Answer F → Type 0 where
-  none-holds : NoneHolds Holds n order → Found Holds n order passed
-  one-holds : {f : F} {i : ℕ} → Told Holds n order f i → Found Holds n order (refused f i)
+-- what is answered says
+abbrev Found : {F : Type 0} → (F → ℕ → Type 0) → ℕ → List F → Answer F → Type 0
+Found Holds n order passed = NoneHolds Holds n order
+Found Holds n order (refused f i) = Told Holds n order f i
 
 module _ {F : Type 0} (test : F → ℕ → Bool) (Holds : F → ℕ → Type 0) (s : (f : F) (j : ℕ) → Says (test f j) (Holds f j)) (n : ℕ) where
   put : (f : F) (order : List F) (o : Option ℕ) (a : Answer F) → Searched (Holds f) n o → Found Holds n order a → Found Holds n (f ∷ order) (tell f o a)
-  put f order (some i) a (at l) r = one-holds (this l)
-  put f order none passed (nowhere never) (none-holds all) =
-      none-holds (λ g m. ⊎-elim (λ e. subst (λ (h : F). Nowhere (Holds h) n) (sym e) never) (λ k. all g k) (List·Memᴰ·cases-cons m))
-  put f order none (refused g i) (nowhere never) (one-holds t) = one-holds (later never t)
+  put f order (some i) a (at l) r = this l
+  put f order none passed (nowhere never) all = λ g m. ⊎-elim (λ e. subst (λ (h : F). Nowhere (Holds h) n) (sym e) never) (λ k. all g k) (List·Memᴰ·cases-cons m)
+  put f order none (refused g i) (nowhere never) t = later never t
 
   found : (order : List F) → Found Holds n order (first order test n)
   unfolding first
-  found [] = none-holds (λ f m. absurd (List·Memᴰ·not-nil m))
+  found [] = λ f m. absurd (List·Memᴰ·not-nil m)
   found (f ∷ order) = put f order (lowest n (test f)) (first order test n) (searched (test f) (Holds f) (s f) n) (found order)
-
-  told-of : {order : List F} {f : F} {i : ℕ} → Found Holds n order (refused f i) → Told Holds n order f i
-  told-of (one-holds t) = t
-
-  none-of : {order : List F} → Found Holds n order passed → NoneHolds Holds n order
-  none-of (none-holds a) = a
 
   tells : (order : List F) (f : F) (i : ℕ) → Told Holds n order f i → first order test n ≡ refused f i
   unfolding first
@@ -46,8 +39,8 @@ module _ {F : Type 0} (test : F → ℕ → Bool) (Holds : F → ℕ → Type 0)
 
   -- f is told at i exactly if it is the first fault that holds anywhere, and i the lowest place where it holds
   pub refused-iff : (order : List F) (f : F) (i : ℕ) → (first order test n ≡ refused f i) ↔ Told Holds n order f i
-  refused-iff order f i = (λ e. told-of (subst (Found Holds n order) e (found order)), tells order f i)
+  refused-iff order f i = (λ e. subst (Found Holds n order) e (found order), tells order f i)
 
   -- nothing is told exactly if no fault of the order holds anywhere
   pub passed-iff : (order : List F) → (first order test n ≡ passed) ↔ NoneHolds Holds n order
-  passed-iff order = (λ e. none-of (subst (Found Holds n order) e (found order)), passes order)
+  passed-iff order = (λ e. subst (Found Holds n order) e (found order), passes order)

@@ -37,6 +37,10 @@ says-once {a = false} s t = sym (refuted t (fails s refl))
 
 -- ---- tests put together
 
+-- of a statement that holds exactly if another does
+pub says-iff : {b : Bool} {P Q : Type 0} → (P → Q) → (Q → P) → Says b P → Says b Q
+says-iff f g s = record { so = λ e. f (s .so e); back = λ q. s .back (g q) }
+
 -- a test says that it passes
 pub says-so : {b : Bool} → Says b (b ≡ true)
 says-so = record { so = λ e. e; back = λ e. e }
@@ -57,20 +61,16 @@ says-or {a = true} s t = record { so = λ e. inl (s .so refl); back = λ p. refl
 says-or {a = false} s t =
     record { so = λ e. inr (t .so e); back = λ p. ⊎-elim (λ x. absurd (fails s refl x)) (λ y. t .back y) p }
 
-pub says-if : {a b : Bool} {P Q : Type 0} → Says a P → Says b Q → Says (not a || b) (P → Q)
-says-if {a = true} s t = record { so = λ e p. t .so e; back = λ f. t .back (f (s .so refl)) }
-says-if {a = false} s t = record { so = λ e p. absurd (fails s refl p); back = λ f. refl }
-
 pub says-unless : {a b : Bool} {P Q : Type 0} → Says a P → Says b Q → Says (a || b) ((P → ⊥) → Q)
 says-unless {a = true} s t = record { so = λ e f. absurd (f (s .so refl)); back = λ g. refl }
 says-unless {a = false} s t = record { so = λ e f. t .so e; back = λ g. t .back (g (fails s refl)) }
 
+pub says-if : {a b : Bool} {P Q : Type 0} → Says a P → Says b Q → Says (not a || b) (P → Q)
+says-if s t = says-iff (λ f p. f (λ n. n p)) (λ g n. g (stable s n)) (says-unless (says-not s) t)
+
 pub says-cond : {a b c : Bool} {P Q R : Type 0} → Says a P → Says b Q → Says c R → Says (cond a b c) ((P → Q) × ((P → ⊥) → R))
 says-cond {a = true} s t u = record { so = λ e. (λ p. t .so e, λ f. absurd (f (s .so refl))); back = λ w. t .back (w .0 (s .so refl)) }
 says-cond {a = false} s t u = record { so = λ e. (λ p. absurd (fails s refl p), λ f. u .so e); back = λ w. u .back (w .1 (fails s refl)) }
-
-pub says-iff : {b : Bool} {P Q : Type 0} → (P → Q) → (Q → P) → Says b P → Says b Q
-says-iff f g s = record { so = λ e. f (s .so e); back = λ q. s .back (g q) }
 
 -- ---- numbers
 

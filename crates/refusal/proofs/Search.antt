@@ -6,7 +6,6 @@ use mathlib.Core.Option.{Option, none, some}
 use Prim.Native.Nat.{ℕ, zero, suc, _<_}
 use native.Mathlib.Nat.{le-refl, not-suc-le-zero}
 use native.Mathlib.Omega.{arith}
-use native.Mathlib.Decide.{decLt}
 use Rattle.refusal.specs.First.{lowest, orElse, SomeBelow, EachBelow, Lowest, Nowhere}
 use Rattle.refusal.proofs.Says.{Says, fails, says-so, below-suc}
 
@@ -18,10 +17,9 @@ pub data Searched (P : ℕ → Type 0) (n : ℕ) : Option ℕ → Type 0 where
 -- two lowest places are one
 lowest-same : {P : ℕ → Type 0} {n i j : ℕ} → Lowest P n i → Lowest P n j → i ≡ j
 lowest-same {i = i} {j = j} l m =
-    elim (decLt i j) [
-      | yes h ↦ absurd (m .below i h (l .here))
-      | no f ↦ elim (decLt j i) [ yes h ↦ absurd (l .below j h (m .here)) | no g ↦ omega (arith, f, g) ]
-    ]
+    let up : i < j → ⊥ = λ h. m .below i h (l .here) in
+    let down : j < i → ⊥ = λ h. l .below j h (m .here) in
+    omega arith
 
 module _ (p : ℕ → Bool) (P : ℕ → Type 0) (s : (j : ℕ) → Says (p j) (P j)) where
   next : (n : ℕ) (o : Option ℕ) (b : Bool) → p n ≡ b → Searched P n o → Searched P (suc n) (orElse o (cond b (some n) none))

@@ -1,6 +1,6 @@
 -- The root of specs/Root.antt and the function of specs/Function.antt are the same: the function's answer has the fields of `RootOf`, and these
 -- decide the bits, since the number decides m and g, g decides s, these decide n, and all of them the root's size. Assumes nothing.
-use mathlib.Core.Path.{_≡_, sym, ap, _∙_}
+use mathlib.Core.Path.{_≡_, refl, sym, ap, _∙_}
 use mathlib.Core.Logic.{_⊎_, inl, inr, _↔_}
 use mathlib.Core.Bool.{true, false}
 use Prim.Native.Nat.{ℕ, suc, _+_, _-_, _*_, _/_, _%_, _^_, _≤_, _<_}
@@ -8,12 +8,12 @@ use native.Mathlib.Nat.{le-of-lt, eq-zero-or-pos}
 use native.Mathlib.Decide.{decLe, ℕ-discrete}
 use native.Mathlib.Omega.{arith}
 use borrow.Author.Tests.{ne-eqb, lt-ltb, le-ltb}
-use Rattle.root.specs.Bits.{plus-zero, minus-zero, infinity, minus-infinity, theNan, BelowZero, IsNan, unitsOf}
+use Rattle.root.specs.Bits.{plus-zero, minus-zero, infinity, BelowZero, IsNan, unitsOf}
 use Rattle.root.specs.Root.{RootOf, IsRoot, some, itself, none}
 use Rattle.root.specs.Function.{nearestRoot, placesFor, scaledRoot, finiteRoot, isKept, rootOf}
 use Rattle.root.specs.Promise.{Rooted}
 use Rattle.root.specs.Steps.{Scaling}
-use Rattle.root.proofs.Nearest.{Near, near-same}
+use Rattle.root.proofs.Nearest.{near-same}
 use Rattle.root.proofs.Scale.{scaling-same, finite-root, root-near, root-range}
 use Rattle.root.proofs.Sizes.{size-same, size-made, has-digits}
 
@@ -49,9 +49,6 @@ finite-is b p l =
 scaling-of : {b r : ℕ} (k : RootOf b r) → Scaling (unitsOf b * 2 ^ 52) (k .m) (k .g)
 scaling-of k = record { least = k .m-least; most = omega (arith, k .m-most); value = k .x-is }
 
-near-of : {b r : ℕ} (k : RootOf b r) → Near (k .n) (k .m * 2 ^ k .s)
-near-of k = record { below = k .below; above = k .above }
-
 even-place : (g s : ℕ) → (s ≡ 52) ⊎ (s ≡ 53) → (g + s) % 2 ≡ 0 → s ≡ placesFor g
 even-place g s (inl e) h = omega arith
 even-place g s (inr e) h = omega arith
@@ -61,54 +58,43 @@ root-of-same b r t k j =
     let d = scaling-same (scaling-of k) (scaling-of j) in
     let s : k .s ≡ j .s = even-place (k .g) (k .s) (k .s-is) (k .even) ∙ ap placesFor (d .1) ∙ sym (even-place (j .g) (j .s) (j .s-is) (j .even)) in
     let e : j .m * 2 ^ j .s ≡ k .m * 2 ^ k .s = cc in
-    let n : k .n ≡ j .n = near-same (k .n) (j .n) (k .m * 2 ^ k .s) (near-of k) (rw e at (near-of j)) in
+    let n : k .n ≡ j .n = near-same (k .n) (j .n) (k .m * 2 ^ k .s) (search) (rw (← e) (search)) in
     size-same r t (cc (k .root-is, j .root-is))
 
--- ---- the function by the kinds of numbers
-pub root-kept : (b : ℕ) → isKept b ≡ true → rootOf b ≡ b
-unfolding rootOf
-root-kept b e = rw e
-
-pub root-none : (b : ℕ) → isKept b ≡ false → infinity < b → rootOf b ≡ theNan
-unfolding rootOf
-root-none b e h = rw (e, lt-ltb infinity b h)
-
-root-some : (b : ℕ) → isKept b ≡ false → b ≤ infinity → rootOf b ≡ finiteRoot (unitsOf b * 2 ^ 52)
-unfolding rootOf
-root-some b e h = rw (e, le-ltb infinity b h)
-
+-- ---- which numbers are their own roots, and which have none
 kept : (b : ℕ) → (b ≡ plus-zero) ⊎ ((b ≡ minus-zero) ⊎ (b ≡ infinity)) → isKept b ≡ true
 kept b (inl e) = rw e
 kept b (inr (inl e)) = rw e
 kept b (inr (inr e)) = rw e
 
-lost : (b : ℕ) → (b ≡ plus-zero → ⊥) → (b ≡ minus-zero → ⊥) → (b ≡ infinity → ⊥) → isKept b ≡ false
-lost b f g h = rw (ne-eqb b plus-zero f, ne-eqb b minus-zero g, ne-eqb b infinity h)
+lost : (b : ℕ) → (b ≡ plus-zero → ⊥) × (b ≡ minus-zero → ⊥) × (b ≡ infinity → ⊥) → isKept b ≡ false
+lost b h = rw (ne-eqb b plus-zero (h .0), ne-eqb b minus-zero (h .1), ne-eqb b infinity (h .2))
 
 pub not-kept : (b : ℕ) → isKept b ≡ false → plus-zero < b
 not-kept b h = elim (eq-zero-or-pos b) [ inl e ↦ (let k = kept b (inl e) in let z : _≡_ {A = ℕ} 0 1 = cc in omega arith) | inr p ↦ p ]
 
-above-zero : (b : ℕ) → plus-zero < b → b < infinity → isKept b ≡ false
-above-zero b p l = lost b (λ e. omega arith) (λ e. omega arith) (λ e. omega arith)
-
 no-root : (b : ℕ) → BelowZero b ⊎ IsNan b → (infinity < b) × (isKept b ≡ false)
-no-root b (inl h) = (omega arith, lost b (λ e. omega arith) (λ e. omega arith) (λ e. omega arith))
-no-root b (inr h) = (omega arith, lost b (λ e. omega arith) (λ e. omega arith) (λ e. omega arith))
+no-root b (inl h) = (omega arith, lost b (omega arith))
+no-root b (inr h) = (omega arith, lost b (omega arith))
 
 -- ---- the relation and the function
 pub root-function : (b r : ℕ) → IsRoot b r → r ≡ rootOf b
-root-function b r (some p l k) = root-of-same b r _ k (finite-is b p l) ∙ sym (root-some b (above-zero b p l) (le-of-lt l))
-root-function b r (itself h e) = e ∙ sym (root-kept b (kept b h))
-root-function b r (none h e) = let k = no-root b h in e ∙ sym (root-none b (k .1) (k .0))
+unfolding rootOf
+root-function b r (some p l k) = rw (lost b (omega arith), le-ltb infinity b (le-of-lt l)) (root-of-same b r _ k (finite-is b p l))
+root-function b r (itself h e) = rw (kept b h) e
+root-function b r (none h e) = let k = no-root b h in rw (k .1, lt-ltb infinity b (k .0)) e
 
 kept-is : (b : ℕ) → (b ≡ plus-zero) ⊎ ((b ≡ minus-zero) ⊎ (b ≡ infinity)) → IsRoot b (rootOf b)
-kept-is b h = itself h (root-kept b (kept b h))
+unfolding rootOf
+kept-is b h = rw (kept b h) (itself h refl)
 
 none-is : (b : ℕ) → BelowZero b ⊎ IsNan b → IsRoot b (rootOf b)
-none-is b h = let k = no-root b h in none h (root-none b (k .1) (k .0))
+unfolding rootOf
+none-is b h = let k = no-root b h in rw (k .1, lt-ltb infinity b (k .0)) (none h refl)
 
 some-is : (b : ℕ) → plus-zero < b → b < infinity → IsRoot b (rootOf b)
-some-is b p l = some p l (rw (root-some b (above-zero b p l) (le-of-lt l)) (finite-is b p l))
+unfolding rootOf
+some-is b p l = rw (lost b (omega arith), le-ltb infinity b (le-of-lt l)) (some p l (finite-is b p l))
 
 pub root-is : (b : ℕ) → b < 2 ^ 64 → IsRoot b (rootOf b)
 root-is b l = elim (decLe b infinity) [
@@ -118,10 +104,7 @@ root-is b l = elim (decLe b infinity) [
   ]
   | no f ↦ elim (ℕ-discrete b minus-zero) [
     | yes e ↦ kept-is b (inr (inl e))
-    | no g ↦ elim (decLe b minus-zero) [
-      | yes h ↦ none-is b (inr (omega arith))
-      | no j ↦ elim (decLe b minus-infinity) [ yes h ↦ none-is b (inl (omega arith)) | no h ↦ none-is b (inr (omega arith)) ]
-    ]
+    | no g ↦ elim (decLe (b % 2 ^ 63) infinity) [ yes h ↦ none-is b (inl (omega arith)) | no h ↦ none-is b (inr (omega arith)) ]
   ]
 ]
 
@@ -133,4 +116,5 @@ pub rooted : (b r : ℕ) → b < 2 ^ 64 → r ≡ rootOf b → Rooted b r
 rooted b r l e = record { relation = root-exactly b r l .1 e; function = e }
 
 pub rooted-some : (b r m g : ℕ) → isKept b ≡ false → b ≤ infinity → Scaling (unitsOf b * 2 ^ 52) m g → r ≡ scaledRoot m g → Rooted b r
-rooted-some b r m g h l k e = rooted b r (omega arith) (e ∙ sym (finite-root k) ∙ sym (root-some b h l))
+unfolding rootOf
+rooted-some b r m g e h k is = rooted b r (omega arith) (rw (e, le-ltb infinity b h, finite-root k) is)

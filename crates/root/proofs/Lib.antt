@@ -1,4 +1,3 @@
-pub mod Squares
 pub mod Nearest
 pub mod Pairs
 pub mod Scale

@@ -2,16 +2,15 @@
 -- and q² + q is where 4M passes (2q+1)². Assumes nothing.
 use mathlib.Core.Path.{_≡_}
 use Prim.Native.Nat.{ℕ, zero, suc, _+_, _-_, _*_, _^_, _≤_, _<_}
-use native.Mathlib.Nat.{le-antisymm, lt-of-lt-of-le, lt-of-not-le, pow-suc}
+use native.Mathlib.Nat.{le-antisymm, lt-of-lt-of-le, lt-of-not-le, le-of-suc-le-suc, pow-suc, mul-le-mul}
 use native.Mathlib.Decide.{decLe}
 use native.Mathlib.Omega.{arith}
 use lib.Dec.{ltb, lit≤}
 use borrow.Author.Tests.{le-leb, lt-leb, lt-ltb, le-ltb}
 use Rattle.root.specs.Function.{pick, floorRoot, nearestRoot}
-use Rattle.root.proofs.Squares.{sq-next, sq-odd, sq-twice, sq-mono}
 
-le-from : (a b : ℕ) → (b < a → ⊥) → a ≤ b
-le-from a b f = elim (decLe a b) [ yes h ↦ h | no h ↦ absurd (f (lt-of-not-le h)) ]
+sq-mono : (a b : ℕ) → a ≤ b → a * a ≤ b * b
+sq-mono a b h = mul-le-mul h h
 
 -- ---- the largest number whose square is at most M
 pub record Floor (q M : ℕ) : Type 0 where
@@ -19,7 +18,7 @@ pub record Floor (q M : ℕ) : Type 0 where
   pub most : M < (q + 1) * (q + 1)
 
 floor-le : (q k M : ℕ) → Floor q M → Floor k M → q ≤ k
-floor-le q k M p r = le-from q k (λ (h : k < q). omega (arith, sq-mono (k + 1) q (omega arith)))
+floor-le q k M p r = le-of-suc-le-suc (lt-of-not-le (λ (h : k < q). omega (arith, sq-mono (k + 1) q (omega arith))))
 
 floor-is : (j q M : ℕ) → q * q ≤ M → M < (q + 2 ^ j) * (q + 2 ^ j) → Floor (floorRoot j q M) M
 unfolding floorRoot
@@ -48,41 +47,30 @@ pub record Near (n M : ℕ) : Type 0 where
   pub above : 4 * M < (2 * n + 1) * (2 * n + 1)
 
 near-le : (n k M : ℕ) → Near n M → Near k M → n ≤ k
-near-le n k M p q = le-from n k (λ (h : k < n). omega (arith, sq-mono (2 * k + 1) (2 * n - 1) (omega arith)))
+near-le n k M p q = le-of-suc-le-suc (lt-of-not-le (λ (h : k < n). omega (arith, sq-mono (2 * k + 1) (2 * n - 1) (omega arith))))
 
 pub near-same : (n k M : ℕ) → Near n M → Near k M → n ≡ k
 near-same n k M p q = le-antisymm (near-le n k M p q) (near-le k n M q p)
 
-not-zero : (q M : ℕ) → 0 < M → M ≤ q * q + q → 0 < q
-not-zero zero M p h = omega arith
-not-zero (suc q) M p h = omega arith
-
 near-up : (q M : ℕ) → Floor q M → q * q + q < M → Near (q + 1) M
-near-up q M f h =
-    let e : 2 * (q + 1) - 1 ≡ q * 2 + 1 = omega arith in
-    let g : 2 * (q + 1) + 1 ≡ (q + 1) * 2 + 1 = omega arith in
-    record { below = rw e (omega (arith, sq-odd q)); above = rw g (omega (arith, sq-odd (q + 1))) }
+near-up q M f h = let e : 2 * (q + 1) - 1 ≡ q * 2 + 1 = omega arith in record { below = rw e (omega arith); above = omega arith }
 
 near-down : (q M : ℕ) → 0 < M → Floor q M → M ≤ q * q + q → Near q M
-near-down q M p f h =
-    let z = not-zero q M p h in
-    let e : 2 * q - 1 + 1 ≡ q * 2 = omega arith in
-    let g : 2 * q + 1 ≡ q * 2 + 1 = omega arith in
-    record { below = omega (arith, rw e at (sq-next (2 * q - 1)), sq-twice q); above = rw g (omega (arith, sq-odd q)) }
-
-near-pick : (q M : ℕ) → 0 < M → Floor q M → Near (pick (ltb (q * q + q) M) (q + 1) q) M
-near-pick q M p f = elim (decLe M (q * q + q)) [
-  | yes h ↦ rw (le-ltb (q * q + q) M h) (near-down q M p f h)
-  | no g ↦ rw (lt-ltb (q * q + q) M (lt-of-not-le g)) (near-up q M f (lt-of-not-le g))
-]
+near-down zero M p f h = omega arith
+near-down (suc q) M p f h = let e : 2 * suc q - 1 ≡ q * 2 + 1 = omega arith in record { below = rw e (omega arith); above = omega arith }
 
 pub nearest-is : (M : ℕ) → 0 < M → M < 2 ^ 106 → Near (nearestRoot M) M
 unfolding nearestRoot
-nearest-is M p l = near-pick (floorRoot 53 0 M) M p (floor-root M l)
+nearest-is M p l =
+    let q = floorRoot 53 0 M in
+    elim (decLe M (q * q + q)) [
+      | yes h ↦ rw (le-ltb (q * q + q) M h) (near-down q M p (floor-root M l) h)
+      | no g ↦ rw (lt-ltb (q * q + q) M (lt-of-not-le g)) (near-up q M (floor-root M l) (lt-of-not-le g))
+    ]
 
 -- the root of 104 to 106 digits has 53
 pub near-range : (n M : ℕ) → 2 ^ 104 ≤ M → M ≤ 2 ^ 106 - 2 ^ 53 → Near n M → (2 ^ 52 ≤ n) × (n < 2 ^ 53)
 near-range n M a b k = (
-  le-from (2 ^ 52) n (λ (h : n < 2 ^ 52). omega (arith, sq-mono (2 * n + 1) (2 ^ 53 - 1) (omega arith))),
+  le-of-suc-le-suc (lt-of-not-le (λ (h : n < 2 ^ 52). omega (arith, sq-mono (2 * n + 1) (2 ^ 53 - 1) (omega arith)))),
   lt-of-not-le (λ (h : 2 ^ 53 ≤ n). omega (arith, sq-mono (2 ^ 54 - 1) (2 * n - 1) (omega arith))),
 )

@@ -8,7 +8,6 @@ use native.Mathlib.Omega.{arith}
 use lib.Pow.{pow-mono}
 use borrow.Author.Tests.{lt-ltb, le-ltb}
 use Rattle.root.specs.Function.{nearestRoot}
-use Rattle.root.proofs.Squares.{sq-odd, sq-next, sq-twice}
 use Rattle.root.proofs.Nearest.{Floor, nearest-from}
 
 -- q is the root of the first i pairs of digits of h, rem is what is left over of them, and a the digits that are still to come, at the top of 54 bits
@@ -20,7 +19,7 @@ pub record Taken (h q rem a i : ℕ) : Type 0 where
   pub is : h * 4 ^ i ≡ (q * q + rem) * 2 ^ 54 + a
 
 pub start : (h : ℕ) → h < 2 ^ 54 → Taken h 0 0 h 0
-start h l = record { to-come = l; over = omega arith; few = omega arith; turns = omega arith; is = omega (arith, mul-one h) }
+start h l = omega (arith, mul-one h)
 
 pub small : {h q rem a i : ℕ} → Taken h q rem a i → q < 2 ^ 53
 small t = lt-of-lt-of-le (t .few) (pow-mono (t .turns))
@@ -34,13 +33,11 @@ module _ (h q rem a i : ℕ) (t : Taken h q rem a i) (l : i < 53) where
 
   -- a turn that sets the next digit of the root
   pub set-digit : q * 4 + 1 ≤ rem * 4 + a / 2 ^ 52 → Taken h (q * 2 + 1) (rem * 4 + a / 2 ^ 52 - (q * 4 + 1)) (a % 2 ^ 52 * 4) (i + 1)
-  set-digit g =
-      record { to-come = omega arith; over = omega arith; few = omega (arith, two); turns = omega arith; is = omega (arith, four, sq-odd q) }
+  set-digit g = omega (arith, two, four)
 
   -- and one that leaves it 0
   pub no-digit : rem * 4 + a / 2 ^ 52 < q * 4 + 1 → Taken h (q * 2) (rem * 4 + a / 2 ^ 52) (a % 2 ^ 52 * 4) (i + 1)
-  no-digit g =
-      record { to-come = omega arith; over = omega arith; few = omega (arith, two); turns = omega arith; is = omega (arith, four, sq-twice q) }
+  no-digit g = omega (arith, two, four)
 
 -- after all 53 pairs
 module _ (h q rem a : ℕ) (l : h < 2 ^ 54) (t : Taken h q rem a 53) where
@@ -48,7 +45,7 @@ module _ (h q rem a : ℕ) (l : h < 2 ^ 54) (t : Taken h q rem a 53) where
   whole = omega arith
 
   floor : Floor q (h * 2 ^ 52)
-  floor = record { least = omega (arith, whole); most = omega (arith, whole, sq-next q) }
+  floor = omega (arith, whole)
 
   pub round-up : q < rem → q + 1 ≡ nearestRoot (h * 2 ^ 52)
   round-up g = rw (nearest-from q (h * 2 ^ 52) (omega arith) floor, lt-ltb (q * q + q) (h * 2 ^ 52) (omega (arith, whole)))

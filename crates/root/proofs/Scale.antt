@@ -39,8 +39,8 @@ pub record Doubled (m d h : ℕ) : Type 0 where
   pub value : h * 2 ^ 52 ≡ m * 2 ^ (52 + d)
 
 doubled-by : (m d : ℕ) → 2 ^ 52 ≤ m → m < 2 ^ 53 → d < 2 → Doubled m d (m * (1 + d))
-doubled-by m zero a b h = record { least = omega arith; most = omega arith; value = omega arith }
-doubled-by m (suc zero) a b h = record { least = omega arith; most = omega arith; value = omega arith }
+doubled-by m zero a b h = omega arith
+doubled-by m (suc zero) a b h = omega arith
 doubled-by m (suc (suc d)) a b h = omega arith
 
 module _ (m g : ℕ) (least : 2 ^ 52 ≤ m) (most : m < 2 ^ 53) where

@@ -18,7 +18,7 @@ fields-same zero t (suc y) u a b e = omega (arith, le-mul-of-pos-right (2 ^ 52 +
 fields-same (suc x) t zero u a b e = omega (arith, le-mul-of-pos-right (2 ^ 52 + t) (pow-pos x))
 fields-same (suc x) t (suc y) u a b e =
     let k = scaling-same {v = unitsIn (suc x) t} {m = 2 ^ 52 + t} {g = x} {n = 2 ^ 52 + u} {k = y}
-    (record { least = omega arith; most = omega arith; value = refl }) (record { least = omega arith; most = omega arith; value = e }) in
+    (omega arith) (omega arith) in
     (omega arith, omega arith)
 
 pub size-same : (r s : ℕ) → unitsOf r ≡ unitsOf s → r ≡ s

@@ -1,13 +1,11 @@
 -- The laws of bytes put into a buffer. Assumes nothing.
 use mathlib.Core.Path.{_≡_, refl, ap, _∙_}
-use mathlib.Core.Bool.{true, false}
 use mathlib.Core.List.{List, [], _++_, append-assoc}
-use Prim.Native.Nat.{ℕ, _+_, _≤_, _<_}
+use Prim.Native.Nat.{ℕ, _+_, _≤_}
 use native.Mathlib.Omega.{arith}
-use borrow.Author.Tests.{le-leb, lt-leb}
 use lib.ListN.{length, take, drop, length-append, length-take, length-drop, take-append-drop}
 use lib.Seq.{paste, take-length, take-at, drop-at, drop-drop}
-use Rattle.store.specs.Store.{written, Put}
+use Rattle.store.specs.Store.{written}
 
 module _ (d : List ℕ) (at : ℕ) (bs : List ℕ) where
   pub written-length : at + length bs ≤ length d → length (written d at bs) ≡ length d
@@ -18,13 +16,6 @@ module _ (d : List ℕ) (at : ℕ) (bs : List ℕ) where
   pub pasted : (n : ℕ) → n ≡ length bs → paste d at bs n ≡ written d at bs
   unfolding written
   pasted n e = rw (e, take-length bs)
-
-  -- with room, and without
-  pub put : at + length bs ≤ length d → Put d at bs true (written d at bs)
-  put h = record { told = rw (le-leb (at + length bs) (length d) h); buffer = rw (le-leb (at + length bs) (length d) h) }
-
-  pub kept : length d < at + length bs → Put d at bs false d
-  kept h = record { told = rw (lt-leb (at + length bs) (length d) h); buffer = rw (lt-leb (at + length bs) (length d) h) }
 
 -- bytes put behind bytes that were put
 pub written-append : (d : List ℕ) (at : ℕ) (a b : List ℕ) → at + length a + length b ≤ length d → written (written d at a) (at + length a) b ≡ written d at (a ++ b)

@@ -17,22 +17,12 @@ Inv-loop line at n₀ i₀ n i = sizeWritten line ≡ sizeAfter n (drop i line)
 abbrev μ-loop : tie.MeasureT-loop
 μ-loop line at n₀ i₀ n i = length line - i
 
-returns : tie.Need-returns Inv-loop μ-loop
-unfolding sizeWritten
-returns c = rw (← c .before .digits-at .ensures, le-leb _ _ (c .if1 .taken))
-
-loop-holds : tie.Need-loop-holds Inv-loop μ-loop
-unfolding sizeWritten
-loop-holds c = rw (← c .before .digits-at .ensures, lt-leb _ _ (c .if1 .left))
-
 loop-again : tie.Need-loop-again Inv-loop μ-loop
-loop-again c =
-    let l = c .before .before .before .loop in l .inv ∙ size-more (c .before .before .before .before .before .before .before .args .line .now) (l .n) (l .i) (omega arith) ∙ rw (c .one-more .ensures)
-
-returns-2 : tie.Need-returns-2 Inv-loop μ-loop
-returns-2 c =
-    let l = c .before .loop in
-    sym (l .inv ∙ size-end (c .before .before .before .before .before .args .line .now) (l .n) (l .i) (omega arith))
+loop-again c = let l = c .before .before .before .loop in l .inv ∙ size-more _ (l .n) (l .i) (omega arith) ∙ rw (c .one-more .ensures)
 
 pub size-of-spec : {M : Type 1} → statement M
-size-of-spec = tie.close (tie.spec Inv-loop μ-loop (λ c κs. search needs) returns loop-holds (λ c. search needs) (λ c κs. search needs) (λ c. omega arith) (λ c. omega arith) loop-again returns-2)
+unfolding sizeWritten
+size-of-spec =
+    tie.close (tie.spec Inv-loop μ-loop (λ c κs. search needs) (λ c. rw (← c .before .digits-at .ensures, le-leb _ _ (c .if1 .taken)))
+    (λ c. rw (← c .before .digits-at .ensures, lt-leb _ _ (c .if1 .left))) (λ c. search needs) (λ c κs. search needs) (λ c. omega arith) (λ c. omega arith)
+    loop-again (λ c. sym (c .before .loop .inv ∙ size-end _ _ _ (c .loop-test .left))))

@@ -38,7 +38,7 @@ use denote.Triple.Spec.{Meets, tripleOf}
 use denote.Triple.Statement.{Contract, Triple}
 use denote.Triple.Call.{calls-at}
 use denote.Triple.Clauses.{Ended, Clauses, ensured, closing, lasts}
-use denote.Triple.Walked.{says, Stays, stay-ref, stay-none, gave-slice, walkOf, goes-ref, goes-none, goes-gave-slice, Walks, ends-at, walked, walk-meets}
+use denote.Triple.Walked.{says, Stays, stay-ref, stay-none, gave-slice, walkOf, goes-ref, goes-none, goes-gave-slice, ends-at, walked, walk-meets}
 use denote.Exit.{yes, unchanged}
 use denote.Signature.{Signature, plain}
 use Rattle.layout.specs.declared.Layout.{Layout}
@@ -138,9 +138,8 @@ module _ (T : Declared) (laws : LL.Laws T) (plains : Plains (fields T)) (shape :
   abbrev stayed : Stays (ended .signature .params) (ended .kept)
   stayed = (stay-none (λ _. L.the-row) yes, (stay-ref (0 ∷ []) tt (plain (λ _. K.the-row)), (gave-slice (1 ∷ []) tt (plain (λ _. u32)), (gave-slice (2 ∷ []) tt (plain (λ _. f64)), (stay-none (λ _. row) yes, tt)))))
 
-  module _ {M : Type 1} (𝓤 : URA M) (H : Heap 𝓤) (A : Atoms 𝓤) where
-    abbrev pub Push : Contract 𝓤
-    Push = tripleOf 𝓤 H A (push-ended .signature) (closing 𝓤 H A push-ended (push-clauses 𝓤))
+  abbrev pub Push : {M : Type 1} (𝓤 : URA M) (H : Heap 𝓤) → Atoms 𝓤 → Contract 𝓤
+  Push 𝓤 H A = tripleOf 𝓤 H A (push-ended .signature) (closing 𝓤 H A push-ended (push-clauses 𝓤))
 
   -- ---- the walk
 
@@ -196,10 +195,6 @@ module _ (T : Declared) (laws : LL.Laws T) (plains : Plains (fields T)) (shape :
         qed W (‵ ftrue ∷ []) ∵ nothing ! $ owned ! u32 (Is u32) (uint-makes 𝓤 H A W w32) n _ (refl, n-fits) $ fjoin ! $
         owned ! P.the-row (Is P.the-row) (EL.makes P.the-type P′.the-plain 𝓤 H A) r _ is $ fjoin ! $ move ! (1 ∷ 0 ∷ []) $ join ! $ frame ! $ done !
 
-    -- of what `next_of` ensures, the clause alone
-    said : (r : Pushed) (m : ℕ) → ent 𝓤 (ensured 𝓤 H A next.ended (next.clauses 𝓤 H A at-mem run) tt (r, (n, tt)) tt m) (fact 𝓤 (m ≡ nextAfter r n))
-    said r m = exE 𝓤 _ (λ ws. snd∗ 𝓤 (sem 𝓤 H A (lasts next.ended tt (r, (n, tt)) ws)) (fact 𝓤 (m ≡ nextAfter r n)))
-
     exits : (r : Pushed) (w : Val) (m : ℕ) (is : List ℕ) (vs : List Float) → Puts (shape p) (state l n (xi .now) (xv .now)) r is vs → m ≡ nextAfter r n → length is ≡ length (xi .now) → length vs ≡ length (xv .now)
         → ent 𝓤 (⋆ 𝓤 H A (‵ (fobs γ (K.the-row .coded .code (count m))) ∷ ‵ (fbor κ (Body (mem K.the-row) b o γ)) ∷ ‵ (flft κ q) ∷ (‵ (flft κ₁ q₁) ⊛ ‵ (flft κ₂ q₂) ⊛ ‵ ftrue) ∷ ‵ (finally u32 (xi .name) is) ∷ ‵ (finally f64 (xv .name) vs) ∷ ‵ (P.the-row .own r (w ∷ [])) ∷ [])) (Post w)
     exits r w m is vs e e′ li lv =
@@ -215,9 +210,6 @@ module _ (T : Declared) (laws : LL.Laws T) (plains : Plains (fields T)) (shape :
 
     n-fits : Is K.the-row c (mach n ∷ []) → n < 2 ^ 32
     n-fits g = LL.owed K.the-type K′.the-laws c _ g .0 .1
-
-    abbrev Last : Type 0
-    Last = Unit {0} × (Unit {0} × (List ℕ × (List Float × (Unit {0} × (Unit {0})))))
 
     module _ (C : Calls 𝓤 H) (Λ : Loops 𝓤 H) (fm : FmC 𝓤 H (W .laws) C) (known-push : Triple 𝓤 (C push) (Push 𝓤 H A)) (known-next : Triple 𝓤 (C #layout·lent·next-of) (Next 𝓤 H A at-mem run)) where
       walk : ent 𝓤 (onEntry 𝓤 H A signature (κ, (κ₁, (κ₂, tt))) (q, (q₁, (q₂, tt))) a vals) (WpFn 𝓤 H C Λ function args Post)
@@ -242,7 +234,8 @@ module _ (T : Declared) (laws : LL.Laws T) (plains : Plains (fields T)) (shape :
           move ! (5 ∷ 7 ∷ 6 ∷ []) $ use3 W (raw (Push 𝓤 H A .pre to-push)) (goes-push (n-fits g)) $
           calls-at ! fm (Push 𝓤 H A) known-push to-push (and-then ! (load ! (from ! (stop !)) (look ! 28 refl)) (and-then ! (load ! (from ! (stop !)) (look ! 18 refl)) (and-then ! (load ! (from ! (stop !)) (look ! 12 refl)) (and-then ! (load ! (from ! (stop !)) (look ! 8 refl)) (and-then ! (load ! (from ! (stop !)) (look ! 20 refl)) (no-more !)))))) (λ w.
           use1 W (later (some (λ (r : Pushed). ((‵ (flft κ₁ q₁) ⊛ ‵ (flft κ₂ q₂) ⊛ ‵ ftrue) ⊛ ‵ (P.the-row .own r (w ∷ []))) ⊛ raw (ensured 𝓤 H A push-ended (push-clauses 𝓤) (κ₁, (κ₂, tt)) (l, (n, (xi, (xv, (p, tt))))) tt r)))) (id⊢ 𝓤 _) $ await ! tt $ pick ! (λ r.
-          split ! $ move ! (1 ∷ []) $ use1 W (some (λ (zs : Last). ‵ (lasts push-ended (κ₁, (κ₂, tt)) (l, (n, (xi, (xv, (p, tt))))) zs) ⊛ raw (fact 𝓤 (Puts (shape p) (state l n (xi .now) (xv .now)) r (zs .1 .1 .0) (zs .1 .1 .1 .0))))) (id⊢ 𝓤 _) $ pick ! (λ zs.
+          split ! $ move ! (1 ∷ []) $ use1 W (some (λ zs. ‵ (lasts push-ended (κ₁, (κ₂, tt)) (l, (n, (xi, (xv, (p, tt))))) zs)
+          ⊛ raw (fact 𝓤 (Puts (shape p) (state l n (xi .now) (xv .now)) r (zs .1 .1 .0) (zs .1 .1 .1 .0))))) (id⊢ 𝓤 _) $ pick ! (λ zs.
           split ! $ move ! (1 ∷ []) $ heard ! (Puts (shape p) (state l n (xi .now) (xv .now)) r (zs .1 .1 .0) (zs .1 .1 .1 .0)) (λ e.
           -- [what is said of last values; the tokens and the result; the counter's cell; what it owns; the open borrow; obs; auth; the locals]
           fsplit ! $ drop ! $ fsplit ! $ drop ! $ fsplit ! $ fsplit ! $ move ! (1 ∷ []) $ feqL ! (λ li. move ! (1 ∷ []) $ fsplit ! $ fsplit ! $ move ! (1 ∷ []) $ feqL ! (λ lv. move ! (1 ∷ []) $ drop ! $
@@ -252,8 +245,9 @@ module _ (T : Declared) (laws : LL.Laws T) (plains : Plains (fields T)) (shape :
           nothing ! $ use1 W (raw (Next 𝓤 H A at-mem run .pre (to-next r w))) (goes-next (n-fits g) r w is) $
           calls-at ! fm (Next 𝓤 H A at-mem run) known-next (to-next r w) (and-then ! (load ! (from ! (stop !)) (look ! 20 refl)) (and-then ! (load ! (from ! (stop !)) (look ! 22 refl)) (no-more !))) (λ w′.
           use1 W (later (some (λ (m : ℕ). (‵ ftrue ⊛ ‵ (u32 .own m (w′ ∷ []))) ⊛ raw (ensured 𝓤 H A next.ended (next.clauses 𝓤 H A at-mem run) tt (r, (n, tt)) tt m)))) (id⊢ 𝓤 _) $ await ! tt $ pick ! (λ m.
-          split ! $ move ! (1 ∷ []) $ use1 W (raw (fact 𝓤 (m ≡ nextAfter r n))) (said r m) $ heard ! (m ≡ nextAfter r n) (λ e′. split ! $ drop ! $
-          peeks ! u32 (Is u32) (shows 𝓤 H A u32) m (w′ ∷ []) (λ is′.
+          split ! $ move ! (1 ∷ []) $ use1 W (raw (fact 𝓤 (m ≡ nextAfter r n)))
+          (exE 𝓤 _ (λ ws. snd∗ 𝓤 (sem 𝓤 H A (lasts next.ended tt (r, (n, tt)) ws)) (fact 𝓤 (m ≡ nextAfter r n)))) $
+          heard ! (m ≡ nextAfter r n) (λ e′. split ! $ drop ! $ peeks ! u32 (Is u32) (shows 𝓤 H A u32) m (w′ ∷ []) (λ is′.
           land ! (from ! (stop !)) (init ! 10 refl (uint-lawful 𝓤 H A W w32 .typed m _ is′ .0)) $ rewrite ! 10 (λ (u : Val). ‵ (fat fullShare (tyInt w32) l₁₂ 0 u)) (ap only (is′ .0)) refl $ drop ! $
           -- [the result; the slices' tokens; the last values; the last ids; the counter's cell; what it owns; the open borrow; obs; auth; the locals]
           assigns ! (of-opd ! (load ! (from ! (stop !)) (look ! 9 refl))) (from ! (hop ! (look ! 29 refl) (fld ! refl (stop !)))) (store-in ! 4 (sub ! 0 refl (whole !)) (tt, record { fits = is′ .1 })) $
@@ -263,15 +257,6 @@ module _ (T : Declared) (laws : LL.Laws T) (plains : Plains (fields T)) (shape :
           move ! (31 ∷ 32 ∷ []) $ free1 ! $ move ! (29 ∷ 30 ∷ []) $ free1 ! $ move ! (27 ∷ 28 ∷ []) $ free1 ! $ move ! (25 ∷ 26 ∷ []) $ free1 ! $ move ! (23 ∷ 24 ∷ []) $ free1 ! $ move ! (21 ∷ 22 ∷ []) $ free1 ! $ move ! (19 ∷ 20 ∷ []) $ free1 ! $ move ! (17 ∷ 18 ∷ []) $ free1 ! $ move ! (15 ∷ 16 ∷ []) $ free1 ! $ move ! (13 ∷ 14 ∷ []) $ free1 ! $ move ! (11 ∷ 12 ∷ []) $ free1 ! $ move ! (9 ∷ 10 ∷ []) $ free1 ! $ move ! (7 ∷ 8 ∷ []) $ free1 ! $ free0 ! $
           keep ! (0 ∷ 1 ∷ 2 ∷ 4 ∷ 6 ∷ 5 ∷ 3 ∷ []) $ by ! (exits r w m (zs .1 .1 .0) (zs .1 .1 .1 .0) e e′ li lv)))))))))))))))))))))))))))
 
-  module _ {M : Type 1} (𝓤 : URA M) (H : Heap 𝓤) (A : Atoms 𝓤) (W : Given 𝓤 H A) (mem : Memory → SProp 𝓤) (run : Routine → Fun 𝓤) where
-    lent-walks : (C : Calls 𝓤 H) (Λ : Loops 𝓤 H) → FmC 𝓤 H (W .laws) C → Triple 𝓤 (C push) (Push 𝓤 H A) → Triple 𝓤 (C #layout·lent·next-of) (Next 𝓤 H A mem run)
-        → Walks 𝓤 H A ended stayed (WpFn 𝓤 H C Λ function) (clauses 𝓤)
-    lent-walks C Λ fm known-push known-next = walked 𝓤 H A ended stayed (clauses 𝓤) (WpFn 𝓤 H C Λ function)
-        (λ κs. (LL.vals L.the-type L′.the-laws, (ptr-vals, (slice-vals, (slice-vals, (LL.vals T laws, tt))))))
-        (λ κs. (LL.tells L.the-type L′.the-laws, (mut-tells (named 0) (κs .0) K.the-row, (mut-slice-tells (named 1) (κs .1 .0) u32, (mut-slice-tells (named 2) (κs .1 .1 .0) f64, (LL.tells T laws, tt))))))
-        (λ κs qs bounds a g are. via 𝓤 _ (fst∗ 𝓤 _ (emp 𝓤)) (walk 𝓤 H A W mem run (κs .0) (κs .1 .0) (κs .1 .1 .0) (qs .0) (qs .1 .0) (qs .1 .1 .0) (a .0) (a .1 .0 .ptr .0) (a .1 .0 .ptr .1) (a .1 .0 .name) (a .1 .0 .now) (a .1 .1 .0) (a .1 .1 .1 .0) (a .1 .1 .1 .1 .0)
-        (are .0) (are .1 .1 .0 .0 .1) (are .1 .1 .1 .0 .0 .1) (are .1 .1 .1 .1 .0) C Λ fm known-push known-next))
-
   pub lent-meets : {M : Type 1} (𝓤 : URA M) (H : Heap 𝓤) (A : Atoms 𝓤) (W : Given 𝓤 H A) (mem : Memory → SProp 𝓤) (run : Routine → Fun 𝓤) (𝓣 : Tables 𝓤 H)
       → Triple 𝓤 (𝓣 .C push) (Push 𝓤 H A) → Triple 𝓤 (𝓣 .C #layout·lent·next-of) (Next 𝓤 H A mem run)
       → Meets 𝓤 H A signature (WpFn 𝓤 H (𝓣 .C) (𝓣 .Λ) function) (closing 𝓤 H A ended (clauses 𝓤))
@@ -279,4 +264,10 @@ module _ (T : Declared) (laws : LL.Laws T) (plains : Plains (fields T)) (shape :
       walk-meets 𝓤 H A ended stayed W
       (goes-none 𝓤 H A W 3 (λ _. L.the-row) yes (λ κs x f. refl), (goes-ref 𝓤 H A W 3 0 tt (plain (λ _. K.the-row)), (goes-gave-slice 𝓤 H A W 3 1 tt (plain (λ _. u32)), (goes-gave-slice 𝓤 H A W 3 2 tt (plain (λ _. f64)), (goes-none 𝓤 H A W 3 (λ _. row) yes (λ κs x f. refl), tt)))))
       (clauses 𝓤) (WpFn 𝓤 H (𝓣 .C) (𝓣 .Λ) function) (WpFn-mono 𝓤 H (W .laws) 𝓣 function)
-      (lent-walks 𝓤 H A W mem run (𝓣 .C) (𝓣 .Λ) (fmOf 𝓤 H (W .laws) 𝓣) known-push known-next)
+      (walked 𝓤 H A ended stayed (clauses 𝓤) (WpFn 𝓤 H (𝓣 .C) (𝓣 .Λ) function)
+      (λ κs. (LL.vals L.the-type L′.the-laws, (ptr-vals, (slice-vals, (slice-vals, (LL.vals T laws, tt))))))
+      (λ κs. let ids = mut-slice-tells (named 1) (κs .1 .0) u32 in let values = mut-slice-tells (named 2) (κs .1 .1 .0) f64 in
+      (LL.tells L.the-type L′.the-laws, (mut-tells (named 0) (κs .0) K.the-row, (ids, (values, (LL.tells T laws, tt))))))
+      (λ κs qs bounds a g are. via 𝓤 _ (fst∗ 𝓤 _ (emp 𝓤)) (walk 𝓤 H A W mem run (κs .0) (κs .1 .0) (κs .1 .1 .0) (qs .0) (qs .1 .0) (qs .1 .1 .0) (a .0)
+      (a .1 .0 .ptr .0) (a .1 .0 .ptr .1) (a .1 .0 .name) (a .1 .0 .now) (a .1 .1 .0) (a .1 .1 .1 .0) (a .1 .1 .1 .1 .0)
+      (are .0) (are .1 .1 .0 .0 .1) (are .1 .1 .1 .0 .0 .1) (are .1 .1 .1 .1 .0) (𝓣 .C) (𝓣 .Λ) (fmOf 𝓤 H (W .laws) 𝓣) known-push known-next)))

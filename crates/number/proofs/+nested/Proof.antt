@@ -1,12 +1,14 @@
 -- `number::nested` meets its contract: it calls itself with `left` less by one, which is the measure (`Depth` has its ways). Assumes nothing.
 use borrow.Author.Needs.{needs}
-use mathlib.Core.Path.{ap, _∙_}
+use borrow.Author.Tests.{eq-eqb, ne-eqb}
+use mathlib.Core.Path.{_∙_}
 use native.Mathlib.Omega.{arith}
 use Prim.Native.Nat.{ℕ, _<_}
 use borrow.Fn.Kinds.{In}
 use borrow.Fn.PlainCycle.{Measures, is, falls, and}
-use Rattle.number.specs.Number.{closed}
-use Rattle.number.proofs.Depth.{no-root, too-deep, deeper}
+use Rattle.text.specs.Text.{wordOn}
+use Rattle.text.proofs.Laws.{handed}
+use Rattle.number.proofs.Depth.{opened}
 use Rattle.number.proofs.nested.Reads as nested
 use Rattle.number.proofs.nested.Kinds as nested-kinds
 use Rattle.number.proofs.+nested.Lts-nested as nested-lts
@@ -27,6 +29,7 @@ abbrev nested-below : ℕ → In 1 nested-kinds.ps
 nested-below t = and 1 nested-kinds.ps (falls 1 nested-kinds.ps _<_ μ-nested t) nested.Pre
 
 pub +nested-spec : {M : Type 1} → statement M
+unfolding wordOn
 +nested-spec = close μ-nested λ t. nested-lts.spec (
   word-reads.Asked,
   word-reads.Learnt,
@@ -45,13 +48,15 @@ pub +nested-spec : {M : Type 1} → statement M
     (λ c κs. search needs)
     (λ c. search needs)
     (λ c κs. search needs)
-    (λ c. c .number-at .ensures ∙ no-root _ _ _ (c .before .before .word .ensures) _ (c .before .match .keys2))
+    (λ c. let w = c .before .before .word in rw (opened, ← w .ensures) (c .number-at .ensures ∙ handed (w .result) _ _ (c .before .match .keys2)))
     (λ c κs. search needs)
-    (λ c. c .no-number .ensures
-    ∙ too-deep _ _ _ (c .before .before .before .before .before .word .ensures) _ (c .before .before .before .inside .given .1) _ (c .before .if1 .taken))
+    (λ c.
+    let at = c .before .before .before in
+    rw (opened, ← at .before .before .word .ensures, at .inside .given .1, eq-eqb _ _ (c .before .if1 .taken)) (c .no-number .ensures))
     (λ c. search needs)
     (λ c κs. omega arith)
     (λ c κs. search needs)
     (λ c.
-    c .close-root .ensures ∙ ap (closed _) (c .before .nested .ensures)
-    ∙ deeper _ _ _ (c .before .before .before .before .before .before .word .ensures) _ (c .before .before .before .before .inside .given .1) _ (omega arith))
+    let at = c .before .before .before .before in
+    rw (opened, ← at .before .before .word .ensures, at .inside .given .1, ne-eqb _ _ (c .before .before .if1 .left), ← c .before .nested .ensures)
+    (c .close-root .ensures))

@@ -1,14 +1,22 @@
--- `number::mantissa_at` meets its contract: it puts together the digits of both sides (`Parts`). Assumes nothing.
+-- `number::mantissa_at` meets its contract: it puts together the digits of both sides. Assumes nothing.
 use borrow.Author.Needs.{needs}
-use Rattle.number.proofs.Parts.{in-order, both}
+use native.Mathlib.Omega.{arith}
+use Rattle.text.proofs.Laws.{runTo-ahead}
+use Rattle.number.specs.Number.{isDigit, allDigits, noDigit, endAt, partAt}
+use Rattle.number.proofs.Numerals.{numeral-append, capped-numeral}
 use Rattle.number.proofs.mantissa_at.Statement.{statement}
 use Rattle.number.proofs.mantissa_at.Tie as tie
 
-sub-t8 : tie.Need-sub-t8
-sub-t8 c = in-order _ _ _ _ _ _ _ (c .before .before .digits-at .ensures) (c .before .after-point .ensures) (c .digits-at2 .ensures)
-
-returns : tie.Need-returns
-returns c = both _ _ _ _ _ _ _ (c .before .before .digits-at .ensures) (c .before .after-point .ensures) (c .digits-at2 .ensures)
-
 pub mantissa-at-spec : {M : Type 1} → statement M
-mantissa-at-spec = tie.close (tie.spec (λ c κs. search needs) (λ c κs. search needs) (λ c κs. search needs) sub-t8 returns)
+unfolding allDigits noDigit endAt partAt
+mantissa-at-spec =
+    tie.close (tie.spec (λ c κs. search needs) (λ c κs. search needs) (λ c κs. search needs)
+    (λ c. omega (arith, c .digits-at2 .ensures .next-is, runTo-ahead isDigit (c .before .before .before .before .args .text .now) (c .before .after-point .result)))
+    (λ c.
+    let whole = c .before .before .digits-at .ensures in
+    record {
+      m-is = rw (numeral-append 0, ← whole .next-is, ← c .before .after-point .ensures, c .digits-at2 .ensures .value-is, whole .value-is, capped-numeral);
+      count-is = cc;
+      end-is = cc;
+      none-is = cc;
+    }))

@@ -6,13 +6,9 @@ use Rattle.number.specs.Number.{exprOn}
 use Rattle.number.proofs.parse_number_expr.Statement.{statement}
 use Rattle.number.proofs.parse_number_expr.Tie as tie
 
-returns : tie.Need-returns
-unfolding exprOn
-returns c = c .no-number .ensures ∙ handed (c .before .before .before .args .stand) _ _ (c .before .match .keys2)
-
-returns-2 : tie.Need-returns-2
-unfolding exprOn
-returns-2 c = rw (c .before .before .stand .given .1) (c .nested .ensures)
-
 pub parse-number-expr-spec : {M : Type 1} → statement M
-parse-number-expr-spec = tie.close (tie.spec (λ c. search needs) (λ c κs. search needs) returns (λ c κs. search needs) returns-2)
+unfolding exprOn
+parse-number-expr-spec =
+    tie.close (tie.spec (λ c. search needs) (λ c κs. search needs)
+    (λ c. c .no-number .ensures ∙ handed (c .before .before .before .args .stand) _ _ (c .before .match .keys2)) (λ c κs. search needs)
+    (λ c. rw (c .before .before .stand .given .1) (c .nested .ensures)))

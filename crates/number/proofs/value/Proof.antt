@@ -3,8 +3,6 @@ use borrow.Author.Needs.{needs}
 use Rattle.number.proofs.value.Statement.{statement}
 use Rattle.number.proofs.value.Tie as tie
 
-returns-2 : tie.Need-returns-2
-returns-2 c = rw (c .before .enum-told .given .1) (c .no-number .ensures)
-
 pub value-spec : {M : Type 1} → statement M
-value-spec = tie.close (tie.spec (λ c. search needs) (λ c. search needs) (λ c κs. search needs) (λ c. rw (c .before .carried .given .1)) returns-2)
+value-spec = tie.close (tie.spec (λ c. search needs) (λ c. search needs) (λ c κs. search needs) (λ c. rw (c .before .carried .given .1))
+    (λ c. rw (c .before .enum-told .given .1) (c .no-number .ensures)))

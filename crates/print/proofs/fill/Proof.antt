@@ -19,12 +19,6 @@ Inv-loop place₀ n base rest₀ i₀ place rest i =
 abbrev μ-loop : tie.MeasureT-loop
 μ-loop place₀ n base rest₀ i₀ place rest i = i
 
-loop-holds : tie.Need-loop-holds Inv-loop μ-loop
-loop-holds c = (rw (drop-length, append-nil), omega arith, refl)
-
-sign-requires : tie.Need-sign-requires Inv-loop μ-loop
-sign-requires c κs = omega (arith, mod-lt (c .before .loop .rest) {m = c .before .before .before .args .base} (omega arith))
-
 loop-again : tie.Need-loop-again Inv-loop μ-loop
 loop-again c =
     let l = c .before .before .loop in
@@ -33,11 +27,11 @@ loop-again c =
 returns : tie.Need-returns Inv-loop μ-loop
 unfolding lastDigits
 returns c =
-    let l = c .before .loop in
-    let e : l .i ≡ 0 = omega arith in
-    sym (rw e at (l .inv .0))
+    let e : c .before .loop .i ≡ 0 = omega arith in
+    sym (rw e at (c .before .loop .inv .0))
 
 pub fill-spec : {M : Type 1} → statement M
 fill-spec =
-    tie.close (tie.spec Inv-loop μ-loop loop-holds (λ c. omega arith) (λ c. omega arith) sign-requires (λ c. omega arith) (λ c. omega arith) (λ c. omega arith)
-    loop-again (λ c. c .before .loop .inv .2) returns)
+    tie.close (tie.spec Inv-loop μ-loop (λ c. (rw (drop-length, append-nil), omega arith, refl)) (λ c. omega arith) (λ c. omega arith)
+    (λ c κs. omega (arith, mod-lt (c .before .loop .rest) {m = c .before .before .before .args .base} (omega arith)))
+    (λ c. omega arith) (λ c. omega arith) (λ c. omega arith) loop-again (λ c. c .before .loop .inv .2) returns)

@@ -1,11 +1,9 @@
 -- `rail::hex_word` meets its contract: the word is the sixteen digits. Assumes nothing.
 use borrow.Author.Needs.{needs}
-use Rattle.rail.proofs.Added.{prints-said}
 use Rattle.rail.proofs.hex_word.Statement.{statement}
 use Rattle.rail.proofs.hex_word.Tie as tie
 
-returns : tie.Need-returns
-returns c = prints-said (c .before .before .word .ensures) (rw (c .before .before .before .before .before .hex .ensures))
-
 pub hex-word-spec : {M : Type 1} → statement M
-hex-word-spec = tie.close (tie.spec (λ c κs. search needs) (λ c. search needs) (λ c κs. search needs) (λ c. search needs) returns)
+hex-word-spec =
+    tie.close (tie.spec (λ c κs. search needs) (λ c. search needs) (λ c κs. search needs) (λ c. search needs)
+    (λ c. rw (c .before .before .before .before .before .hex .ensures) at (c .before .before .word .ensures)))

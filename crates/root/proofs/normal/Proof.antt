@@ -1,5 +1,5 @@
 -- `root::normal` meets its contract: each turn moves a factor of two from 2^g to m, and while m lacks digits there is one left. Assumes nothing.
-use mathlib.Core.Path.{_≡_, _∙_, sym}
+use mathlib.Core.Path.{_≡_}
 use Prim.Native.Nat.{ℕ, zero, suc, _-_, _*_, _^_, _≤_, _<_}
 use native.Mathlib.Nat.{pow-succ', mul-assoc}
 use native.Mathlib.Omega.{arith}
@@ -23,11 +23,7 @@ move m (suc g) p = let e : suc g - 1 ≡ g = omega arith in rw (e, pow-succ', mu
 some : (c : tie.In-loop Inv-loop μ-loop) → 0 < c .before .loop .g
 some c = left (c .before .before .args .t) _ _ (omega arith) (omega arith) (c .before .loop .inv .3)
 
-loop-again : tie.Need-loop-again Inv-loop μ-loop
-loop-again c = (omega arith, omega arith, omega arith, c .before .loop .inv .3 ∙ sym (move (c .before .loop .m) (c .before .loop .g) (some c)))
-
-returns : tie.Need-returns Inv-loop μ-loop
-returns c = (omega arith, record { least = omega arith; most = omega arith; value = c .before .loop .inv .3 })
-
 pub normal-spec : {M : Type 1} → statement M
-normal-spec = tie.close (tie.spec Inv-loop μ-loop (λ c. omega arith) (λ c. omega arith) (λ c. some c) (λ c. omega (arith, some c)) loop-again returns)
+normal-spec =
+    tie.close (tie.spec Inv-loop μ-loop (λ c. omega arith) (λ c. omega arith) (λ c. some c) (λ c. omega (arith, some c))
+    (λ c. omega (arith, move (c .before .loop .m) (c .before .loop .g) (some c))) (λ c. omega arith))

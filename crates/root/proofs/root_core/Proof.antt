@@ -25,16 +25,11 @@ loop-again c =
 at-end : (c : tie.After-loop Inv-loop μ-loop) → Taken (c .before .before .args .h) (c .before .loop .q) (c .before .loop .rem) (c .before .loop .a) 53
 at-end c = let e : c .before .loop .i ≡ 53 = omega arith in rw e at (c .before .loop .inv)
 
-returns : tie.Need-returns Inv-loop μ-loop
-returns c = round-up _ _ _ _ (omega arith) (at-end (c .before)) (c .if2 .taken)
-
-returns-2 : tie.Need-returns-2 Inv-loop μ-loop
-returns-2 c = round-down _ _ _ _ (omega arith) (at-end (c .before)) (c .if2 .left)
-
 pub root-core-spec : {M : Type 1} → statement M
 root-core-spec =
     tie.close (tie.spec Inv-loop μ-loop (λ c. start (c .args .h) (omega arith)) (λ c. omega (arith, small (c .before .loop .inv)))
     (λ c. omega (arith, small (c .before .loop .inv))) (λ c. omega arith) (λ c. omega (arith, small (c .before .loop .inv)))
     (λ c. omega (arith, small (c .before .loop .inv))) (λ c. omega (arith, small (c .before .before .loop .inv)))
     (λ c. omega (arith, small (c .before .before .loop .inv))) (λ c. omega (arith, small (c .before .before .loop .inv))) (λ c. omega arith) (λ c. omega arith)
-    loop-again (λ c. omega (arith, small (c .before .before .loop .inv))) returns returns-2)
+    loop-again (λ c. omega (arith, small (c .before .before .loop .inv)))
+    (λ c. round-up _ _ _ _ (omega arith) (at-end (c .before)) (c .if2 .taken)) (λ c. round-down _ _ _ _ (omega arith) (at-end (c .before)) (c .if2 .left)))

@@ -1,35 +1,18 @@
--- `text::byte` meets its contract: a byte is a word of one byte, so the laws of a word's first byte answer. Assumes nothing.
+-- `text::byte` meets its contract: a byte is a word of one byte, so it goes by that byte. Assumes nothing.
 use borrow.Author.Needs.{needs}
-use mathlib.Core.List.{[], _∷_}
+use borrow.Author.Tests.{eq-eqb, ne-eqb}
+use Prim.Native.Nat.{ℕ}
+use lib.ListN.{drop-of-length-le}
+use lib.Seq.{drop-cons}
 use Rattle.text.specs.Text.{wordAt, byteOn}
-use Rattle.text.proofs.Laws.{handed, starts-more, starts-stop, starts-short}
+use Rattle.text.proofs.Laws.{handed}
 use Rattle.text.proofs.byte.Statement.{statement}
 use Rattle.text.proofs.byte.Tie as tie
 
-returns : tie.Need-returns
-unfolding byteOn
-returns c = handed (c .before .args .stand) _ _ (c .match .keys2)
-
-returns-2 : tie.Need-returns-2
-unfolding byteOn wordAt
-returns-2 c =
-    let a = c .before .before .before .before .before .before .args in
-    let g = c .before .before .before .before .stand .given in
-    rw (g .1, starts-more (a .b ∷ []) (a .text .now) 0 (g .0 .0) (search needs) (search needs) (c .if2 .taken))
-
-returns-3 : tie.Need-returns-3
-unfolding byteOn wordAt
-returns-3 c =
-    let a = c .before .before .before .before .before .before .args in
-    let g = c .before .before .before .before .stand .given in
-    rw (g .1, starts-stop (a .b ∷ []) (a .text .now) 0 (g .0 .0) (search needs) (search needs) (c .if2 .left))
-
-returns-4 : tie.Need-returns-4
-unfolding byteOn wordAt
-returns-4 c =
-    let a = c .before .before .before .before .args in
-    let g = c .before .before .stand .given in
-    rw (g .1, starts-short (a .b ∷ []) (a .text .now) 0 (g .0 .0) (search needs) (c .if1 .left))
-
 pub byte-spec : {M : Type 1} → statement M
-byte-spec = tie.close (tie.spec (λ c. search needs) returns (λ c. search needs) (λ c. search needs) returns-2 returns-3 returns-4)
+unfolding byteOn wordAt
+byte-spec =
+    tie.close (tie.spec (λ c. search needs) (λ c. handed (c .before .args .stand) _ _ (c .match .keys2)) (λ c. search needs) (λ c. search needs)
+    (λ c. rw (c .before .before .before .before .stand .given .1, drop-cons {A = ℕ} _ _ 0 (c .before .before .if1 .taken), eq-eqb _ _ (c .if2 .taken)))
+    (λ c. rw (c .before .before .before .before .stand .given .1, drop-cons {A = ℕ} _ _ 0 (c .before .before .if1 .taken), ne-eqb _ _ (c .if2 .left)))
+    (λ c. rw (c .before .before .stand .given .1, drop-of-length-le _ (c .if1 .left))))

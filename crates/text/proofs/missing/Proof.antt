@@ -4,8 +4,5 @@ use Rattle.text.proofs.Laws.{handed}
 use Rattle.text.proofs.missing.Statement.{statement}
 use Rattle.text.proofs.missing.Tie as tie
 
-returns : tie.Need-returns
-returns c = handed (c .before .args .stand) _ _ (c .match .keys2)
-
 pub missing-spec : {M : Type 1} → statement M
-missing-spec = tie.close (tie.spec (λ c. search needs) returns (λ c. rw (c .before .stand .given .1)))
+missing-spec = tie.close (tie.spec (λ c. search needs) (λ c. handed (c .before .args .stand) _ _ (c .match .keys2)) (λ c. rw (c .before .stand .given .1)))

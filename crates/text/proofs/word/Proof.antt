@@ -5,13 +5,8 @@ use Rattle.text.proofs.Laws.{handed}
 use Rattle.text.proofs.word.Statement.{statement}
 use Rattle.text.proofs.word.Tie as tie
 
-returns : tie.Need-returns
-unfolding wordOn
-returns c = handed (c .before .before .before .args .stand) _ _ (c .match .keys2)
-
-returns-2 : tie.Need-returns-2
-unfolding wordOn
-returns-2 c = rw (c .before .before .stand .given .1) (c .word-at .ensures)
-
 pub word-spec : {M : Type 1} → statement M
-word-spec = tie.close (tie.spec (λ c. search needs) returns (λ c κs. search needs) returns-2)
+unfolding wordOn
+word-spec =
+    tie.close (tie.spec (λ c. search needs) (λ c. handed (c .before .before .before .args .stand) _ _ (c .match .keys2)) (λ c κs. search needs)
+    (λ c. rw (c .before .before .stand .given .1) (c .word-at .ensures)))

@@ -11,35 +11,16 @@ use Rattle.text.proofs.Laws.{starts-more, starts-stop, starts-short, st
 use Rattle.text.proofs.word_at.Statement.{statement}
 use Rattle.text.proofs.word_at.Tie as tie
 
-abbrev Inv-loop : tie.InvT-loop
-Inv-loop text w at p₀ i₀ p i = (starts w (drop at text) ≡ starts (drop i w) (drop p text)) × (p ≡ at + i) × (i ≤ length w)
-
-abbrev μ-loop : tie.MeasureT-loop
-μ-loop text w at p₀ i₀ p i = length w - i
-
-loop-again : tie.Need-loop-again Inv-loop μ-loop
-loop-again c =
-    let l = c .before .before .before .before .before .loop in
-    (l .inv .0 ∙ starts-more _ _ (l .i) (l .p) (search needs) (search needs) (c .if2 .left), omega arith, omega arith)
-
-returns : tie.Need-returns Inv-loop μ-loop
-unfolding wordAt
-returns c =
-    let l = c .before .before .loop in
-    rw (l .inv .0 ∙ starts-short _ _ (l .i) (l .p) (search needs) (search needs))
-
-returns-2 : tie.Need-returns-2 Inv-loop μ-loop
-unfolding wordAt
-returns-2 c =
-    let l = c .before .before .before .before .before .loop in
-    rw (l .inv .0 ∙ starts-stop _ _ (l .i) (l .p) (search needs) (search needs) (c .if2 .taken))
-
-returns-3 : tie.Need-returns-3 Inv-loop μ-loop
-unfolding wordAt
-returns-3 c =
-    let l = c .before .loop in
-    rw (l .inv .0 ∙ starts-end _ _ (l .i) (l .p) (c .loop-test .left)) (ap At (omega arith))
-
 pub word-at-spec : {M : Type 1} → statement M
-word-at-spec = tie.close (tie.spec Inv-loop μ-loop (λ c. (refl, omega arith, omega arith)) returns (λ c. search needs) (λ c. search needs) returns-2 (λ c. search needs)
-    (λ c. search needs) (λ c. search needs) loop-again returns-3)
+unfolding wordAt
+word-at-spec =
+    tie.close (tie.spec (λ text w at p₀ i₀ p i. (starts w (drop at text) ≡ starts (drop i w) (drop p text)) × (p ≡ at + i) × (i ≤ length w))
+    (λ text w at p₀ i₀ p i. length w - i) (λ c. (refl, omega arith, omega arith))
+    (λ c. let l = c .before .before .loop in rw (l .inv .0 ∙ starts-short _ _ (l .i) (l .p) (search needs) (search needs)))
+    (λ c. search needs) (λ c. search needs)
+    (λ c. let l = c .before .before .before .before .before .loop in rw (l .inv .0 ∙ starts-stop _ _ (l .i) (l .p) (search needs) (search needs) (c .if2 .taken)))
+    (λ c. search needs) (λ c. search needs) (λ c. search needs)
+    (λ c.
+    let l = c .before .before .before .before .before .loop in
+    (l .inv .0 ∙ starts-more _ _ (l .i) (l .p) (search needs) (search needs) (c .if2 .left), omega arith, omega arith))
+    (λ c. let l = c .before .loop in rw (l .inv .0 ∙ starts-end _ _ (l .i) (l .p) (c .loop-test .left)) (ap At (omega arith))))

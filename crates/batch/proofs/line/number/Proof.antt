@@ -22,8 +22,7 @@ loop-again c =
     let e = c .before .before .word-after .ensures in
     (word-le _ _ _ _ e (l .inv .0), l .inv .1 ∙ number-more _ _ (l .word) (l .n) (l .i) (omega arith) ∙ rw (c .one-digit .ensures, e))
 
-returns : tie.Need-returns Inv-loop μ-loop
-returns c = sym (c .before .loop .inv .1 ∙ number-end _ _ _ _ _ (c .loop-test .left))
-
 pub number-spec : {M : Type 1} → statement M
-number-spec = tie.close (tie.spec Inv-loop μ-loop (λ c. (omega arith, refl)) (λ c. search needs) (λ c κs. omega arith) (λ c. search needs) (λ c κs. search needs) (λ c. search needs) (λ c. search needs) loop-again returns)
+number-spec =
+    tie.close (tie.spec Inv-loop μ-loop (λ c. (omega arith, refl)) (λ c. search needs) (λ c κs. omega arith) (λ c. search needs) (λ c κs. search needs)
+    (λ c. search needs) (λ c. search needs) loop-again (λ c. sym (c .before .loop .inv .1 ∙ number-end _ _ _ _ _ (c .loop-test .left))))

@@ -9,15 +9,14 @@ use Rattle.forms.proofs.Words.{no-declaration}
 use Rattle.forms.proofs.declarations.declare.Statement.{statement}
 use Rattle.forms.proofs.declarations.declare.Tie as tie
 
-returns : tie.Need-returns
-returns c = rw (c .no-label .ensures) (sym (no-declaration _ _ _ (c .before .before .may-stand .ensures (not-true _ (c .before .if1 .taken)))))
-
-keyword-requires : tie.Need-keyword-requires
-keyword-requires c κs = word-fits (wordOf (c .before .before .before .before .args .kind)) _ (c .word-of .ensures)
-
-returns-2 : tie.Need-returns-2
-unfolding declareOn
-returns-2 c = rw (← word-begins (wordOf (c .before .before .before .before .before .before .args .kind)) _ (c .before .before .word-of .ensures), ← c .before .keyword .ensures, ← c .label-behind .ensures)
-
 pub declare-spec : {M : Type 1} → statement M
-declare-spec = tie.close (tie.spec (λ c κs. search needs) (λ c κs. search needs) returns (λ c κs. search needs) keyword-requires (λ c κs. search needs) returns-2)
+unfolding declareOn
+declare-spec =
+    tie.close (tie.spec (λ c κs. search needs) (λ c κs. search needs)
+    (λ c.
+    let m = c .before .before in
+    rw (c .no-label .ensures) (sym (no-declaration _ _ (m .before .before .args .kind) (m .may-stand .ensures (not-true _ (c .before .if1 .taken))))))
+    (λ c κs. search needs) (λ c κs. word-fits (wordOf (c .before .before .before .before .args .kind)) _ (c .word-of .ensures)) (λ c κs. search needs)
+    (λ c.
+    let w = c .before .before in
+    rw (← word-begins (wordOf (w .before .before .before .before .args .kind)) _ (w .word-of .ensures), ← c .before .keyword .ensures, ← c .label-behind .ensures)))

@@ -5,8 +5,8 @@ use lib.Seq.{length-take-le}
 use Rattle.forms.proofs.keywords.keyword.Statement.{statement}
 use Rattle.forms.proofs.keywords.keyword.Tie as tie
 
-slice-aggregate-word : tie.Need-slice-aggregate-word
-slice-aggregate-word c = let start = c .before .before .before in sym (length-take-le (start .args .word .1) (start .args .word .0) (start .pre))
-
 pub keyword-spec : {M : Type 1} → statement M
-keyword-spec = tie.close (tie.spec (λ c. search needs) slice-aggregate-word (λ c κs. search needs) (λ c. search needs))
+keyword-spec =
+    tie.close (tie.spec (λ c. search needs)
+    (λ c. let start = c .before .before .before in sym (length-take-le (start .args .word .1) (start .args .word .0) (start .pre))) (λ c κs. search needs)
+    (λ c. search needs))

@@ -8,38 +8,22 @@ use Rattle.forms.specs.Forms.{keywordKinds, firstOf}
 use Rattle.forms.proofs.Begin.{skip}
 use Rattle.text.proofs.Laws.{taken}
 use Rattle.forms.proofs.Table.{keyword-long}
-use Rattle.forms.proofs.Order.{first-here, first-more, first-none}
+use Rattle.forms.proofs.Order.{first-here, first-none}
 use Rattle.forms.proofs.keywords.keyword_forms.Statement.{statement}
 use Rattle.forms.proofs.keywords.keyword_forms.Tie as tie
 
-abbrev Inv-loop : tie.InvT-loop
-Inv-loop text at kinds array i₀ i = firstOf text (At at) keywordKinds ≡ firstOf text (At at) (drop i keywordKinds)
-
-abbrev μ-loop : tie.MeasureT-loop
-μ-loop text at kinds array i₀ i = 18 - i
-
-loop-holds : tie.Need-loop-holds Inv-loop μ-loop
-loop-holds c = skip _ _ (c .skip-to .result) keywordKinds (rw (← c .before .byte-at .ensures) (c .skip-to .ensures))
-
-try-keyword-requires : tie.Need-try-keyword-requires Inv-loop μ-loop
-try-keyword-requires c κs = (c .before .before .before .before .before .pre, keyword-long (c .before .loop .i) (c .loop-test .taken))
-
-returns : tie.Need-returns Inv-loop μ-loop
-returns c =
+pub keyword-forms-spec : {M : Type 1} → statement M
+keyword-forms-spec =
+    tie.close (tie.spec (λ text at kinds array i₀ i. firstOf text (At at) keywordKinds ≡ firstOf text (At at) (drop i keywordKinds))
+    (λ text at kinds array i₀ i. 18 - i) (λ c κs. search needs) (λ c κs. search needs)
+    (λ c. skip _ _ (c .skip-to .result) keywordKinds (rw (← c .before .byte-at .ensures) (c .skip-to .ensures))) (λ c. search needs)
+    (λ c κs. (c .before .before .before .before .before .pre, keyword-long (c .before .loop .i) (c .loop-test .taken))) (λ c. search needs)
+    (λ c.
     let l = c .before .before .before .loop in
     let k = c .before .try-keyword in
-    rw (l .inv ∙ first-here _ _ keywordKinds (l .i) (c .before .before .loop-test .taken), ← k .ensures)
-    (taken (k .result .then) _ _ (c .match .keys2))
-
-loop-again : tie.Need-loop-again Inv-loop μ-loop
-loop-again c =
+    rw (l .inv ∙ first-here _ _ keywordKinds (l .i) (c .before .before .loop-test .taken), ← k .ensures) (taken (k .result .then) _ _ (c .match .keys2)))
+    (λ c. search needs) (λ c. search needs)
+    (λ c.
     let l = c .before .before .before .before .loop in
-    l .inv
-    ∙ first-more _ _ keywordKinds (l .i) (c .before .before .before .loop-test .taken)
-    (rw (← c .before .before .try-keyword .ensures) (c .enum-told .given .1))
-
-returns-2 : tie.Need-returns-2 Inv-loop μ-loop
-returns-2 c = rw (c .no-line .ensures) (sym (c .before .before .loop .inv ∙ first-none _ _ keywordKinds _ (c .before .loop-test .left)))
-
-pub keyword-forms-spec : {M : Type 1} → statement M
-keyword-forms-spec = tie.close (tie.spec Inv-loop μ-loop (λ c κs. search needs) (λ c κs. search needs) loop-holds (λ c. search needs) try-keyword-requires (λ c. search needs) returns (λ c. search needs) (λ c. search needs) loop-again (λ c κs. search needs) returns-2)
+    l .inv ∙ rw (first-here _ _ keywordKinds (l .i) (c .before .before .before .loop-test .taken), ← c .before .before .try-keyword .ensures, c .enum-told .given .1))
+    (λ c κs. search needs) (λ c. rw (c .no-line .ensures) (sym (c .before .before .loop .inv ∙ first-none _ _ keywordKinds _ (c .before .loop-test .left)))))

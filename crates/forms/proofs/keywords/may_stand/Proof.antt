@@ -6,16 +6,13 @@ use Rattle.forms.proofs.Words.{not-begun, past-end}
 use Rattle.forms.proofs.keywords.may_stand.Statement.{statement}
 use Rattle.forms.proofs.keywords.may_stand.Tie as tie
 
-returns-2 : tie.Need-returns-2
-returns-2 c = λ e. rw (c .before .before .stand .given .1) (past-end _ _ _ (c .before .before .before .before .before .pre) (c .if1 .taken))
-
-returns-3 : tie.Need-returns-3
-returns-3 c =
-    λ e.
-    rw (c .before .before .before .before .before .stand .given .1)
-    (not-begun _ _ (c .before .before .before .before .before .before .before .before .args .kind) (c .before .before .before .before .before .before .before .before .pre) (c .before .before .before .if1 .left)
-    (rw (← c .before .byte-at .ensures) (sym (c .may-begin .ensures) ∙ e)))
-
 pub may-stand-spec : {M : Type 1} → statement M
-may-stand-spec = tie.close (tie.spec (λ c. search needs) (λ c. λ (e : true ≡ false). absurd (true≢false e)) returns-2 (λ c. search needs) (λ c. search needs)
-    (λ c κs. search needs) (λ c κs. search needs) returns-3)
+may-stand-spec =
+    tie.close (tie.spec (λ c. search needs) (λ c (e : true ≡ false). absurd (true≢false e))
+    (λ c e. rw (c .before .before .stand .given .1) (past-end _ _ _ (c .before .before .before .before .before .pre) (c .if1 .taken))) (λ c. search needs)
+    (λ c. search needs) (λ c κs. search needs) (λ c κs. search needs)
+    (λ c e.
+    let at = c .before .before .before .before .before in
+    let start = at .before .before .before in
+    rw (at .stand .given .1)
+    (not-begun _ _ (start .args .kind) (start .pre) (c .before .before .before .if1 .left) (rw (← c .before .byte-at .ensures) (sym (c .may-begin .ensures) ∙ e)))))

@@ -5,8 +5,7 @@ use Rattle.forms.proofs.Words.{no-keyword}
 use Rattle.forms.proofs.keywords.try_keyword.Statement.{statement}
 use Rattle.forms.proofs.keywords.try_keyword.Tie as tie
 
-returns-2 : tie.Need-returns-2
-returns-2 c = rw (c .no-line .ensures) (sym (no-keyword _ _ _ (c .before .before .may-stand .ensures (c .before .if1 .left))))
-
 pub try-keyword-spec : {M : Type 1} → statement M
-try-keyword-spec = tie.close (tie.spec (λ c κs. search needs) (λ c κs. search needs) (λ c. search needs) (λ c κs. search needs) returns-2)
+try-keyword-spec =
+    tie.close (tie.spec (λ c κs. search needs) (λ c κs. search needs) (λ c. search needs) (λ c κs. search needs)
+    (λ c. rw (c .no-line .ensures) (sym (no-keyword _ _ _ (c .before .before .may-stand .ensures (c .before .if1 .left))))))

@@ -4,9 +4,8 @@ use Rattle.forms.specs.Forms.{assignOn}
 use Rattle.forms.proofs.labels.assign_point.Statement.{statement}
 use Rattle.forms.proofs.labels.assign_point.Tie as tie
 
-returns : tie.Need-returns
-unfolding assignOn
-returns c = rw (← c .before .before .before .opt-suffix .ensures, ← c .before .before .around .ensures, ← c .before .parse-point .ensures, c .labelled .ensures)
-
 pub assign-point-spec : {M : Type 1} → statement M
-assign-point-spec = tie.close (tie.spec (λ c κs. search needs) (λ c κs. search needs) (λ c κs. search needs) (λ c κs. search needs) returns)
+unfolding assignOn
+assign-point-spec =
+    tie.close (tie.spec (λ c κs. search needs) (λ c κs. search needs) (λ c κs. search needs) (λ c κs. search needs)
+    (λ c. rw (← c .before .before .before .opt-suffix .ensures, ← c .before .before .around .ensures, ← c .before .parse-point .ensures, c .labelled .ensures)))

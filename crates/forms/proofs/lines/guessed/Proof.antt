@@ -6,16 +6,10 @@ use Rattle.forms.proofs.Stands.{line-of}
 use Rattle.forms.proofs.lines.guessed.Statement.{statement}
 use Rattle.forms.proofs.lines.guessed.Tie as tie
 
-returns : tie.Need-returns
-unfolding guessedOn
-returns c =
-    let p = c .before .before .parse-point in
-    rw (← p .ensures, c .labelled .ensures) (taken (p .result .then) _ _ (c .before .match .keys2))
-
-returns-2 : tie.Need-returns-2
-unfolding guessedOn
-returns-2 c =
-    rw (← c .before .before .before .before .parse-point .ensures, c .before .before .enum-told .given .1) (line-of (cc) (cc))
-
 pub guessed-spec : {M : Type 1} → statement M
-guessed-spec = tie.close (tie.spec (λ c κs. search needs) (λ c. search needs) (λ c κs. search needs) returns (λ c κs. search needs) (λ c κs. search needs) returns-2)
+unfolding guessedOn
+guessed-spec =
+    tie.close (tie.spec (λ c κs. search needs) (λ c. search needs) (λ c κs. search needs)
+    (λ c. let p = c .before .before .parse-point in rw (← p .ensures, c .labelled .ensures) (taken (p .result .then) _ _ (c .before .match .keys2)))
+    (λ c κs. search needs) (λ c κs. search needs)
+    (λ c. rw (← c .before .before .before .before .parse-point .ensures, c .before .before .enum-told .given .1) (line-of (cc) (cc))))

@@ -3,11 +3,7 @@ use borrow.Author.Needs.{needs}
 use Rattle.forms.proofs.lines.line_at.Statement.{statement}
 use Rattle.forms.proofs.lines.line_at.Tie as tie
 
-returns : tie.Need-returns
-returns c = rw (c .before .if1 .taken) (c .parse-guess .ensures)
-
-returns-2 : tie.Need-returns-2
-returns-2 c = rw (c .before .if1 .left) (c .parse-instruction .ensures)
-
 pub line-at-spec : {M : Type 1} → statement M
-line-at-spec = tie.close (tie.spec (λ c κs. search needs) returns (λ c κs. search needs) returns-2)
+line-at-spec =
+    tie.close (tie.spec (λ c κs. search needs) (λ c. rw (c .before .if1 .taken) (c .parse-guess .ensures)) (λ c κs. search needs)
+    (λ c. rw (c .before .if1 .left) (c .parse-instruction .ensures)))

@@ -4,10 +4,8 @@ use Rattle.forms.specs.Forms.{moreOn}
 use Rattle.forms.proofs.pieces.more.Statement.{statement}
 use Rattle.forms.proofs.pieces.more.Tie as tie
 
-returns : tie.Need-returns
-unfolding moreOn
-returns c = rw (c .before .before .if1 .taken, ← c .before .around .ensures) (c .parse-label .ensures)
-
 pub more-spec : {M : Type 1} → statement M
 unfolding moreOn
-more-spec = tie.close (tie.spec (λ c κs. search needs) (λ c κs. search needs) returns (λ c κs. search needs) (λ c. rw (c .before .if1 .left) (c .no-label .ensures)))
+more-spec =
+    tie.close (tie.spec (λ c κs. search needs) (λ c κs. search needs) (λ c. rw (c .before .before .if1 .taken) (cc)) (λ c κs. search needs)
+    (λ c. rw (c .before .if1 .left) (c .no-label .ensures)))

@@ -13,14 +13,9 @@ Inv-loop ids₀ values₀ at next guess i₀ id₀ ids values i id = Storing ids
 abbrev μ-loop : tie.MeasureT-loop
 μ-loop ids₀ values₀ at next guess i₀ id₀ ids values i id = length guess - i
 
-loop-again : tie.Need-loop-again Inv-loop μ-loop
-loop-again c = store-turn _ _ _ _ _ _ _ _ _ (c .before .before .loop .inv) (omega arith) (omega arith) (omega arith)
-
-returns : tie.Need-returns Inv-loop μ-loop
-returns c = store-end _ _ _ _ _ _ _ _ _ (c .before .loop .inv) (omega arith)
-
 pub store-spec : {M : Type 1} → statement M
 store-spec =
     tie.close (tie.spec Inv-loop μ-loop (λ c. store-start _ _ _ _ _) (λ c. omega arith) (λ c. omega arith) (λ c. omega arith) (λ c. omega arith) (λ c. omega arith)
-    (λ c. omega arith) (λ c. omega arith) (λ c. omega arith) (λ c. omega arith) (λ c. omega arith) (λ c. omega arith) loop-again (λ c. omega arith) (λ c. omega arith)
-    returns)
+    (λ c. omega arith) (λ c. omega arith) (λ c. omega arith) (λ c. omega arith) (λ c. omega arith) (λ c. omega arith)
+    (λ c. store-turn _ _ _ _ _ _ _ _ _ (c .before .before .loop .inv) (omega arith) (omega arith) (omega arith)) (λ c. omega arith) (λ c. omega arith)
+    (λ c. store-end _ _ _ _ _ _ _ _ _ (c .before .loop .inv) (omega arith)))

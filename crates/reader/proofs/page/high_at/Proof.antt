@@ -11,20 +11,10 @@ use Rattle.reader.specs.Page.{highAt}
 use Rattle.reader.proofs.page.high_at.Statement.{statement}
 use Rattle.reader.proofs.page.high_at.Tie as tie
 
-abbrev Inv-loop : tie.InvT-loop
-Inv-loop text i₀ i = highAt text ≡ runTo (λ b. ltb b 128) text i
-
-abbrev μ-loop : tie.MeasureT-loop
-μ-loop text i₀ i = length text - i
-
-loop-again : tie.Need-loop-again Inv-loop μ-loop
-loop-again c = c .before .before .before .loop .inv ∙ runTo-more (λ b. ltb b 128) _ _ (search needs) (lt-ltb _ _ (c .if2 .taken))
-
-returns-2 : tie.Need-returns-2 Inv-loop μ-loop
-returns-2 c = sym (c .before .before .before .loop .inv ∙ runTo-stop (λ b. ltb b 128) _ _ (search needs) (le-ltb _ _ (c .if2 .left)))
-
-returns-3 : tie.Need-returns-3 Inv-loop μ-loop
-returns-3 c = sym (c .before .loop .inv ∙ runTo-end (λ b. ltb b 128) _ _ (c .loop-test .left))
-
 pub high-at-spec : {M : Type 1} → statement M
-high-at-spec = tie.close (tie.spec Inv-loop μ-loop (λ c κs. search needs) (λ c. sym (c .before .largest .ensures (c .if1 .taken))) (λ c. refl) (λ c. search needs) (λ c. search needs) (λ c. search needs) loop-again returns-2 returns-3)
+high-at-spec =
+    tie.close (tie.spec (λ text i₀ i. highAt text ≡ runTo (λ b. ltb b 128) text i) (λ text i₀ i. length text - i) (λ c κs. search needs)
+    (λ c. sym (c .before .largest .ensures (c .if1 .taken))) (λ c. refl) (λ c. search needs) (λ c. search needs) (λ c. search needs)
+    (λ c. c .before .before .before .loop .inv ∙ runTo-more (λ b. ltb b 128) _ _ (search needs) (lt-ltb _ _ (c .if2 .taken)))
+    (λ c. sym (c .before .before .before .loop .inv ∙ runTo-stop (λ b. ltb b 128) _ _ (search needs) (le-ltb _ _ (c .if2 .left))))
+    (λ c. sym (c .before .loop .inv ∙ runTo-end (λ b. ltb b 128) _ _ (c .loop-test .left))))
