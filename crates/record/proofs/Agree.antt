@@ -1,25 +1,23 @@
 -- The tests of a record say what docs/FORMAT.md says of it: each is put together along its statement. Assumes nothing.
-use mathlib.Core.Path.{_≡_, refl, sym, ap, _∙_}
-use mathlib.Core.Bool.{Bool, true, false, not, _&&_, _||_}
+use mathlib.Core.Path.{_≡_, refl, ap, _∙_}
+use mathlib.Core.Logic.{_↔_}
+use mathlib.Core.Bool.{Bool, true, false, _&&_}
 use mathlib.Core.List.{List, []}
-use Prim.Native.Nat.{ℕ, zero, suc, _+_, _≤_, _<_}
-use native.Mathlib.Nat.{not-suc-le-zero}
+use Prim.Native.Nat.{ℕ, _+_, _≤_, _<_}
 use native.Mathlib.Omega.{arith}
-use native.Mathlib.Decide.{decLt}
 use lib.Dec.{ltb, eqb}
-use lib.ListN.{length, List·getD-eq-default}
-use borrow.Author.Tests.{ltb-true}
-use Rattle.refusal.specs.First.{EachBelow, allBelow}
-use Rattle.refusal.proofs.Says.{Says, refuted, says-once, says-so, says-and, says-unless, says-cond, says-if, says-iff, says-eq, says-le, says-lt, says-all}
+use lib.ListN.{length}
+use Rattle.refusal.specs.First.{EachBelow}
+use Rattle.refusal.proofs.Says.{Says, says-and, says-unless, says-cond, says-if, says-iff, says-eq, says-le, says-lt, says-all}
 use Rattle.bytes.specs.Little.{byte}
-use Rattle.record.specs.Steps.{spelledAll, goodKind}
 use Rattle.record.specs.declared.View.{View}
 use Rattle.record.specs.declared.Record.{Record}
-use Rattle.record.specs.Kinds.{Kind, kinds, kindAt, noKind, numberless, pair}
+use Rattle.record.specs.Kinds.{kindAt, numberless, pair}
 use Rattle.record.specs.Record.{recordBytes, mark, firstGuess, labelPlaces, longestText}
 use Rattle.record.specs.Decode.{decode}
 use Rattle.record.specs.Entry.{Entry, noEntry, labelNo, named, entryOf, noView, viewOf}
-use Rattle.record.specs.Sound.{guessEnd, guessZeros, Placed, Framed, Known, Third, Spelled, Sound, Good, spelledTest, placedTest, framedTest, fieldsTest, soundTest, goodTest}
+use Rattle.record.specs.Sound.{guessEnd, guessZeros, Placed, Framed, Known, Third, Spelled, Sound, Good, placedTest, framedTest, fieldsTest, soundTest, goodTest}
+use Rattle.record.proofs.Table.{says-known}
 use Rattle.record.proofs.Spelled.{says-spelled}
 use Rattle.ground.proofs.UpTo.{length-up-to, getD-up-to}
 
@@ -39,11 +37,6 @@ says-placed text r q =
     (λ p. (p .used, λ f. p .unused (omega (arith, f))))
     (says-cond (says-lt q (r .count)) (says-le (viewOf r q .start + viewOf r q .len) (length text)) (says-none (viewOf r q)))
 
--- a label place that is used lies inside the text
-pub used-inside : (text : List ℕ) (r : Record) → EachBelow labelPlaces (Placed text r) → (q : ℕ) → q < labelPlaces → ltb q (r .count) ≡ true
-    → viewOf r q .start + viewOf r q .len ≤ length text
-used-inside text r p q h e = p q h .used (ltb-true q (r .count) e)
-
 pub says-framed : (text b : List ℕ) → Says (framedTest (length text) b) (Framed text b)
 unfolding framedTest
 says-framed text b =
@@ -56,32 +49,14 @@ says-framed text b =
     (says-and (says-all _ _ (says-placed text (decode b)) labelPlaces)
     (says-if (says-le firstGuess (decode b .kind)) (says-all _ _ (λ k. says-eq (byte b (guessEnd + k)) 0) guessZeros))))))
 
--- ---- the kind
-
--- each kind of the table has labels: one computed test
-abbrev hasLabels : ℕ → Bool
-hasLabels k = not (ltb 0 k) || ltb 0 (kindAt k .labels)
-
-known-of : (k : ℕ) → 0 < kindAt k .labels → Known k
-known-of zero h = absurd (not-suc-le-zero h)
-known-of (suc k) h =
-    elim (decLt (suc k) (length kinds)) [
-      | yes i ↦ (omega arith, i)
-      | no f ↦ (let past : length kinds ≤ suc k = omega (arith, f) in
-          absurd (omega (arith, h, ap (λ (r : Kind). r .labels) (List·getD-eq-default kinds noKind past))))
-    ]
-
-pub says-known : (k : ℕ) → Says (ltb 0 (kindAt k .labels)) (Known k)
-says-known k =
-    let all = says-all hasLabels _ (λ j. says-so) (length kinds) .so refl in
-    record { so = λ e. known-of k (ltb-true 0 (kindAt k .labels) e); back = λ h. says-if (says-lt 0 k) says-so .so (all k (h .1)) (h .0) }
-
 -- ---- what the bytes say
 
 -- the fields as the kind allows, but for the labels' text
-pub says-allowed : (kind third count x y : ℕ)
-    → Says (fieldsTest (kindAt kind) third count x y)
-    (Known kind × (Third kind third × ((count ≡ kindAt kind .labels) × ((kindAt kind .number ≡ numberless → x ≡ 0) × ((kindAt kind .number ≡ pair → ⊥) → y ≡ 0)))))
+abbrev pub Allowed : ℕ → ℕ → ℕ → ℕ → ℕ → Type 0
+Allowed kind third count x y =
+    Known kind × (Third kind third × ((count ≡ kindAt kind .labels) × ((kindAt kind .number ≡ numberless → x ≡ 0) × ((kindAt kind .number ≡ pair → ⊥) → y ≡ 0))))
+
+says-allowed : (kind third count x y : ℕ) → Says (fieldsTest (kindAt kind) third count x y) (Allowed kind third count x y)
 says-allowed kind third count x y =
     let k = kindAt kind in
     says-and (says-known kind)
@@ -114,49 +89,25 @@ none-unsound = refl
 
 -- ---- a sound entry by its record's fields
 
-module _ (text : List ℕ) (r : Record) (few : r .count ≤ labelPlaces) where
+module _ (text : List ℕ) (r : Record) where
   pub count-is : length (entryOf text r .labels) ≡ r .count
   unfolding entryOf
   count-is = length-up-to (r .count) (named text r)
 
-  pub label-is : (q : ℕ) → q < r .count → labelNo (entryOf text r) q ≡ named text r q
+  label-is : (q : ℕ) → q < r .count → labelNo (entryOf text r) q ≡ named text r q
   unfolding entryOf
   label-is q h = getD-up-to (r .count) (named text r) q [] h
 
-  -- the labels that are there, of all label places
-  spelled-is : (dotted : Bool) → allBelow (r .count) (λ q. spelledTest dotted (labelNo (entryOf text r) q)) ≡ spelledAll text r dotted
-  spelled-is dotted =
-      says-once
-      (says-all _ _ (λ q. says-so) (r .count))
-      (says-iff
-      (λ w q h. ap (spelledTest dotted) (label-is q h) ∙ w q (omega (arith, h, few)) h)
-      (λ w q i h. sym (ap (spelledTest dotted) (label-is q h)) ∙ w q h)
-      (says-all _ _ (λ q. says-if (says-lt q (r .count)) says-so) labelPlaces))
+  -- each label that is there is spelled as one
+  pub all-spelled : (dotted : Bool)
+      → EachBelow (r .count) (λ q. Spelled dotted (named text r q)) ↔ EachBelow (length (entryOf text r .labels)) (λ q. Spelled dotted (labelNo (entryOf text r) q))
+  all-spelled dotted =
+      (λ w q h. let i : q < r .count = omega (arith, count-is) in rw (label-is q i) (w q i), λ w q h. rw (label-is q h) at (w q (omega (arith, count-is))))
 
-  pub says-spelled-all : (dotted : Bool)
-      → Says (spelledAll text r dotted) (EachBelow (length (entryOf text r .labels)) (λ q. Spelled dotted (labelNo (entryOf text r) q)))
-  says-spelled-all dotted =
-      rw (count-is, ← spelled-is dotted) (says-all _ _ (λ q. says-spelled (labelNo (entryOf text r) q) dotted) (r .count))
-
-  sound-is :
-      soundTest (entryOf text r)
-      ≡ fieldsTest (kindAt (r .kind)) (r .third) (r .count) (r .x) (r .y) && spelledAll text r (kindAt (r .kind) .dotted)
-  unfolding soundTest entryOf
-  sound-is = rw (count-is, spelled-is (kindAt (r .kind) .dotted)) refl
-
-  pub sound-of : fieldsTest (kindAt (r .kind)) (r .third) (r .count) (r .x) (r .y) ≡ true
+  pub sound-of : r .count ≤ labelPlaces → fieldsTest (kindAt (r .kind)) (r .third) (r .count) (r .x) (r .y) ≡ true
       → EachBelow labelPlaces (λ q. q < r .count → Spelled (kindAt (r .kind) .dotted) (named text r q)) → Sound (entryOf text r)
-  sound-of f w =
-      let all = says-all _ _ (λ q. says-if (says-lt q (r .count)) (says-spelled (named text r q) (kindAt (r .kind) .dotted))) labelPlaces in
-      says-sound (entryOf text r) .so (sound-is ∙ rw (f, all .back w) refl)
-
--- ---- the kind of a good record
-
-module _ (text b : List ℕ) where
-  pub kind-of-bad : (Good text b → ⊥) → 0 ≡ goodKind text b
-  unfolding goodKind
-  kind-of-bad f = rw (refuted (says-good text b) f) refl
-
-  pub kind-of-good : Good text b → decode b .kind ≡ goodKind text b
-  unfolding goodKind
-  kind-of-good g = rw (says-good text b .back g) refl
+  unfolding entryOf
+  sound-of few f w =
+      let a = says-allowed (r .kind) (r .third) (r .count) (r .x) (r .y) .so f in
+      let spelled = all-spelled (kindAt (r .kind) .dotted) .0 (λ q h. w q (omega (arith, h, few)) h) in
+      record { known = a .0; third = a .1 .0; count = count-is ∙ a .1 .1 .0; spelled = spelled; no-x = a .1 .1 .1 .0; no-y = a .1 .1 .1 .1 }

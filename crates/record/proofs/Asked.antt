@@ -1,78 +1,59 @@
 -- What asking a record answers, case by case. Assumes nothing.
 use mathlib.Core.Path.{_≡_, refl, sym, ap, _∙_}
-use mathlib.Core.Bool.{true, false, _&&_}
+use mathlib.Core.Bool.{Bool, true, false, _&&_, cond}
 use mathlib.Core.List.{List}
 use Prim.Native.Nat.{ℕ, _≤_, _<_}
 use native.Mathlib.Omega.{arith}
 use lib.Dec.{eqb, ltb}
-use borrow.Author.Tests.{lt-ltb, le-ltb}
-use Rattle.refusal.proofs.Says.{refuted, stable, says-and, says-eq}
-use Rattle.record.specs.Record.{labelPlaces}
-use Rattle.record.specs.Steps.{goodKind, NamesLabel}
-use Rattle.record.specs.declared.Record.{Record}
-use Rattle.record.specs.declared.ask.Asked.the-variants as asked
+use borrow.Author.Tests.{eqb-true, lt-ltb, le-ltb}
+use Rattle.refusal.proofs.Says.{refuted, stable, says-once, says-and, says-iff, says-eq, says-lt}
+use Rattle.record.specs.Laid.{kindTold}
+use Rattle.record.specs.Steps.{NamesLabel}
 use Rattle.record.specs.Kinds.{kindAt, angle}
 use Rattle.record.specs.Decode.{decode}
-use Rattle.record.specs.Entry.{entryOf, noView, viewOf}
+use Rattle.record.specs.Entry.{noView, viewOf}
 use Rattle.record.specs.Sound.{Good, goodTest}
-use Rattle.record.specs.Formed.{malformedAt}
-use Rattle.record.specs.Ask.{labelOf, labelFrom, angleIn, angleOf}
-use Rattle.record.proofs.Agree.{says-good, kind-of-bad, kind-of-good}
+use Rattle.record.specs.Ask.{labelOf, labelFrom}
+use Rattle.record.proofs.Agree.{says-good}
+use Rattle.record.proofs.Records.{says-record, kind-of, says-bad}
 
 module _ (text b : List ℕ) where
   -- a record whose kind is told is good
-  pub good-of-kind : (goodKind text b ≡ 0 → ⊥) → Good text b
-  good-of-kind f = stable (says-good text b) (λ g. f (sym (kind-of-bad text b g)))
-
-  pub bad-of-kind : goodKind text b ≡ 0 → Good text b → ⊥
-  unfolding entryOf
-  bad-of-kind e g = omega (arith, e, kind-of-good text b g, g .sound .known .0)
+  pub good-of-kind : (kindTold true text b ≡ 0 → ⊥) → Good text b
+  good-of-kind f = stable (says-record text b true) (λ g. f (eqb-true _ _ (says-bad text b true .back g)))
 
   -- ---- labels
 
   module _ (q : ℕ) where
-    empty : (goodTest text b && ltb q (decode b .count)) ≡ false → NamesLabel text b q noView
+    -- a label that is there lies inside the text
+    label-view : NamesLabel text b q (cond (goodTest text b && ltb q (decode b .count)) (viewOf (decode b) q) noView)
     unfolding labelOf labelFrom
-    empty e = record { inside = omega arith; starts = rw e refl; is = rw e refl }
+    label-view = go (goodTest text b && ltb q (decode b .count)) refl
+      where
+        go : (t : Bool) → (goodTest text b && ltb q (decode b .count)) ≡ t → NamesLabel text b q (cond t (viewOf (decode b) q) noView)
+        go true e =
+            let w = says-and (says-good text b) (says-lt q (decode b .count)) .so e in
+            record { inside = w .0 .framed .placed q (omega (arith, w .1, w .0 .framed .few)) .used (w .1); starts = rw e refl; is = rw e refl }
+        go false e = record { inside = omega arith; starts = rw e refl; is = rw e refl }
 
     pub no-record : (Good text b → ⊥) → NamesLabel text b q noView
-    no-record f = empty (rw (refuted (says-good text b) f) refl)
+    no-record f = rw (refuted (says-good text b) f) at label-view
 
     module _ (g : Good text b) where
-      pub no-label : (r : Record) → r ≡ decode b → r .count ≤ q → NamesLabel text b q noView
-      no-label r e h = empty (rw (says-good text b .back g, le-ltb q (decode b .count) (rw e at h)) refl)
+      pub no-label : decode b .count ≤ q → NamesLabel text b q noView
+      no-label h = rw (says-good text b .back g, le-ltb q (decode b .count) h) at label-view
 
-      -- a label that is there lies inside the text
-      module _ (r : Record) (e : r ≡ decode b) (h : q < r .count) where
-        pub some-place : q < labelPlaces
-        some-place = omega (arith, rw e at h, g .framed .few)
-
-        pub some-label : NamesLabel text b q (viewOf r q)
-        unfolding labelOf labelFrom
-        some-label =
-            record {
-              inside = rw e (g .framed .placed q some-place .used (rw e at h));
-              starts = rw (says-good text b .back g, lt-ltb q (decode b .count) (rw e at h), e) refl;
-              is = rw (says-good text b .back g, lt-ltb q (decode b .count) (rw e at h), e) refl;
-            }
+      pub some-label : q < decode b .count → NamesLabel text b q (viewOf (decode b) q)
+      some-label h = rw (says-good text b .back g, lt-ltb q (decode b .count) h) at label-view
 
   -- ---- angles
 
   -- the sort of number, by the kind of a good record: none of the table's sorts is an angle but for a kind of the table
-  pub angle-good : kindAt (goodKind text b) .number ≡ angle → Good text b
+  pub angle-good : kindAt (kindTold true text b) .number ≡ angle → Good text b
   angle-good e = good-of-kind (λ z. omega (arith, sym (ap (λ (k : ℕ). kindAt k .number) z) ∙ e))
 
-  pub no-angle : (kindAt (goodKind text b) .number ≡ angle → ⊥) → asked.Refused (malformedAt 0) ≡ angleOf text b
-  unfolding angleOf
-  no-angle f =
-      let r : goodTest text b && eqb (kindAt (decode b .kind) .number) angle ≡ false
-      = refuted (says-and (says-good text b) (says-eq (kindAt (decode b .kind) .number) angle)) (λ w. f (ap (λ (k : ℕ). kindAt k .number) (sym (kind-of-good text b (w .0))) ∙ w .1)) in
-      rw r refl
-
-  pub some-angle : kindAt (goodKind text b) .number ≡ angle → asked.Angle (angleIn (decode b)) ≡ angleOf text b
-  unfolding angleOf
-  some-angle e =
-      let g = angle-good e in
-      let r : goodTest text b && eqb (kindAt (decode b .kind) .number) angle ≡ true
-      = says-and (says-good text b) (says-eq (kindAt (decode b .kind) .number) angle) .back (g, ap (λ (k : ℕ). kindAt k .number) (kind-of-good text b g) ∙ e) in
-      rw r refl
+  pub angle-test : goodTest text b && eqb (kindAt (decode b .kind) .number) angle ≡ eqb (kindAt (kindTold true text b) .number) angle
+  angle-test =
+      says-once (says-and (says-good text b) (says-eq (kindAt (decode b .kind) .number) angle))
+      (says-iff (λ e. let g = angle-good e in (g, rw (kind-of text b true g) at e)) (λ w. rw (kind-of text b true (w .0)) (w .1))
+      (says-eq (kindAt (kindTold true text b) .number) angle))

@@ -42,29 +42,20 @@ module _ (r : Record) (rest : List ℕ) (h : Fits r) where
   place-back false e = each-place _ (view-back 0 (lit< tt)) (rw e (view-back 1 (lit< tt))) (rw e (view-back 2 (lit< tt))) (rw e (view-back 3 (lit< tt)))
 
   -- the numbers
-  x-back : (g : Bool) → isGuess (r .kind) ≡ g → decode (cond g (guess r) (instruction r) ++ rest) .x ≡ r .x
+  numbers-back : (g : Bool) → isGuess (r .kind) ≡ g
+      → let d = decode (cond g (guess r) (instruction r) ++ rest) in (d .x ≡ r .x) × (d .y ≡ r .y)
   unfolding decode
-  x-back true e = rw e (number-le 8 (r .x) (h .x-fits))
-  x-back false e = rw e (number-le 8 (r .x) (h .x-fits))
-
-  y-back : (g : Bool) → isGuess (r .kind) ≡ g → decode (cond g (guess r) (instruction r) ++ rest) .y ≡ r .y
-  unfolding decode
-  y-back true e = rw e (number-le 8 (r .y) (h .y-fits))
-  y-back false e = rw e (sym (h .no-y (leb-false firstGuess (r .kind) e)))
+  numbers-back true e = rw e (number-le 8 (r .x) (h .x-fits), number-le 8 (r .y) (h .y-fits))
+  numbers-back false e = rw e (number-le 8 (r .x) (h .x-fits), sym (h .no-y (leb-false firstGuess (r .kind) e)))
 
   fields-back : (g : Bool) → isGuess (r .kind) ≡ g → decode (cond g (guess r) (instruction r) ++ rest) ≡ r
   unfolding decode
   fields-back g e i =
       let head = cond-of (λ (b : List ℕ). (byte (b ++ rest) 1 ≡ r .kind) × (byte (b ++ rest) 2 ≡ r .third) × (byte (b ++ rest) 3 ≡ r .count)) g
       (guess r) (instruction r) (λ f. (refl, refl, refl)) (λ f. (refl, refl, refl)) in
-      record {
-        kind = head .0 i;
-        third = head .1 i;
-        count = head .2 i;
-        labels = up-to-list labelPlaces (r .labels) noView _ (h .places) (place-back g e) i;
-        x = x-back g e i;
-        y = y-back g e i;
-      }
+      let labels = up-to-list labelPlaces (r .labels) noView _ (h .places) (place-back g e) in
+      let numbers = numbers-back g e in
+      record { kind = head .0 i; third = head .1 i; count = head .2 i; labels = labels i; x = numbers .0 i; y = numbers .1 i }
 
   pub decode-encode : decode (encode r ++ rest) ≡ r
   unfolding encode

@@ -1,28 +1,32 @@
--- The entries of a list, place by place, and the test of each place by the kind of a good record. Assumes nothing.
+-- The entries of a list, place by place: what is told of them is told by the kinds of the records. Assumes nothing.
 use mathlib.Core.Path.{_≡_, refl, sym, ap, _∙_}
-use mathlib.Core.Bool.{Bool, true, false, not, _&&_, cond, or-false}
+use mathlib.Core.Logic.{inl}
+use mathlib.Core.Bool.{Bool, true, false, not, _&&_, cond, or-false, Bool·not-not}
+use mathlib.Core.Option.{Option, none, some}
 use mathlib.Core.List.{List, [], _∷_, _++_}
 use Prim.Native.Nat.{ℕ, suc, _+_, _%_, _≤_, _<_}
-use native.Mathlib.Nat.{not-suc-le-zero}
 use native.Mathlib.Omega.{arith}
-use lib.Dec.{leb, eqb}
+use native.Mathlib.Decide.{decLt}
+use lib.Dec.{eqb}
 use lib.ListN.{length, getD, length-append, List·getD-append}
 use lib.Seq.{getD-append-add}
-use borrow.Author.Tests.{le-leb, lt-ltb, le-ltb, eq-eqb, ne-eqb}
+use borrow.Author.Tests.{le-leb, lt-ltb, le-ltb, eq-eqb, ne-eqb, eqb-true}
 use Rattle.ground.specs.Lists.{upTo}
-use Rattle.refusal.specs.First.{EachBelow}
-use Rattle.refusal.proofs.Says.{fails, refuted, says-and, says-le}
-use Rattle.refusal.proofs.Search.{stops-here, goes-through}
+use Rattle.refusal.specs.First.{EachBelow, Nowhere, lowest}
+use Rattle.refusal.proofs.Says.{Says, fails, refuted, stable, says-so, says-not, says-and, says-le}
+use Rattle.refusal.proofs.Search.{Searched, at, nowhere, searched, stops-here, goes-through}
+use Rattle.refusal.proofs.Alike.{any-alike}
 use Rattle.text.proofs.Laws.{cond-of}
-use Rattle.record.specs.declared.formed.Formed.the-variants as formed
-use Rattle.record.specs.Steps.{goodKind, misplaced}
 use Rattle.record.specs.Record.{recordBytes, mostRecords, longestText}
-use Rattle.record.specs.Decode.{decode, countOf, recordOf}
+use Rattle.record.specs.Decode.{isGuess, decode, countOf, recordOf}
 use Rattle.record.specs.Entry.{Entry, noEntry, entryAt, entryOf}
 use Rattle.record.specs.Sound.{Good, framedTest, soundTest, goodTest}
-use Rattle.record.specs.Formed.{malformedAt, entry, entries, places, anyGuess, faultTest, malformedTest, verdict, formedOf}
+use Rattle.record.specs.Formed.{entry, entries, anyGuess, faultTest, malformedTest, verdict, formedOf, misplaced}
+use Rattle.record.specs.Laid.{kindTold, inLimits, fineBy, formedBy}
 use Rattle.ground.proofs.UpTo.{length-up-to, getD-up-to}
-use Rattle.record.proofs.Agree.{says-framed, says-good, none-unsound, kind-of-bad, kind-of-good}
+use Rattle.record.proofs.Agree.{says-framed, says-good, none-unsound}
+use Rattle.record.proofs.Records.{says-record, kind-of, says-bad}
+use Rattle.record.proofs.Passed.{Passed, says-fine, over, here-is, end-is}
 
 -- ---- one entry
 
@@ -31,18 +35,13 @@ pub entry-good : (text b : List ℕ) → Good text b → entry text b ≡ entryO
 unfolding entry
 entry-good text b g = rw (says-framed text b .back (g .framed)) refl
 
-pub entry-kind : (text b : List ℕ) → Good text b → entry text b .kind ≡ goodKind text b
+entry-kind : (text b : List ℕ) → Good text b → entry text b .kind ≡ kindTold true text b
 unfolding entryOf
-entry-kind text b g = ap (λ (e : Entry). e .kind) (entry-good text b g) ∙ kind-of-good text b g
-
--- there is no kind 0
-good-some : (text b : List ℕ) → Good text b → goodKind text b ≡ 0 → ⊥
-unfolding entryOf
-good-some text b g e = omega (arith, g .sound .known .0, kind-of-good text b g ∙ e)
+entry-kind text b g = ap (λ (e : Entry). e .kind) (entry-good text b g) ∙ sym (kind-of text b true g)
 
 module _ (text b : List ℕ) (short : length text ≤ longestText) where
   -- the entry is sound exactly if the record is good
-  pub entry-sound : soundTest (entry text b) ≡ goodTest text b
+  entry-sound : soundTest (entry text b) ≡ goodTest text b
   unfolding entry goodTest
   entry-sound = rw (le-leb (length text) longestText short) (go (framedTest (length text) b))
     where
@@ -51,52 +50,32 @@ module _ (text b : List ℕ) (short : length text ≤ longestText) where
       go false = none-unsound
 
   -- a record is at fault at a place by its entry, or by its kind
-  pub misplaced-is : (i : ℕ) (behind : Bool) → misplaced (goodKind text b) i behind ≡ faultTest (entry text b) (eqb i 0) behind
+  misplaced-is : (i : ℕ) (behind : Bool) → faultTest (entry text b) (eqb i 0) behind ≡ misplaced (kindTold true text b) i behind
   misplaced-is i behind = go (goodTest text b) refl
     where
-      go : (g : Bool) → goodTest text b ≡ g → misplaced (goodKind text b) i behind ≡ faultTest (entry text b) (eqb i 0) behind
+      go : (g : Bool) → goodTest text b ≡ g → faultTest (entry text b) (eqb i 0) behind ≡ misplaced (kindTold true text b) i behind
       go true e =
           let g = says-good text b .so e in
-          let k : entry text b .kind ≡ goodKind text b = entry-kind text b g in
-          rw (entry-sound, e, k, ne-eqb (goodKind text b) 0 (good-some text b g)) refl
-      go false e = rw (entry-sound, e, ← kind-of-bad text b (fails (says-good text b) e)) refl
+          rw (entry-sound, e, entry-kind text b g, refuted (says-bad text b true) (λ f. f g)) refl
+      go false e = rw (entry-sound, e, says-bad text b true .back (fails (says-good text b) e)) refl
 
--- ---- what is told of a list
+-- ---- the places
 
 module _ (es : List Entry) where
-  pub told-at : (i : ℕ) → i < places es → malformedTest es i ≡ true → EachBelow i (λ j. malformedTest es j ≡ false) → formed.Refused (malformedAt i) ≡ formedOf es
-  unfolding formedOf
-  told-at i h e f = sym (ap verdict (stops-here (malformedTest es) (places es) i h e f))
-
-  pub none-told : EachBelow (places es) (λ j. malformedTest es j ≡ false) → formed.WellFormed ≡ formedOf es
-  unfolding formedOf
-  none-told f = sym (ap verdict (goes-through (malformedTest es) (places es) f))
-
   -- an entry, and the place after the last
-  pub inside-is : (i : ℕ) → i < length es → malformedTest es i ≡ faultTest (entryAt es i) (eqb i 0) (anyGuess es i)
+  inside-is : (i : ℕ) → i < length es → malformedTest es i ≡ faultTest (entryAt es i) (eqb i 0) (anyGuess es i)
   unfolding malformedTest
   inside-is i h =
       rw (lt-ltb i (length es) h, ne-eqb i (length es) (λ e. omega (arith, e, h))) (or-false (faultTest (entryAt es i) (eqb i 0) (anyGuess es i)))
 
-  pub last-is : malformedTest es (length es) ≡ not (anyGuess es (length es))
+  last-is : malformedTest es (length es) ≡ not (anyGuess es (length es))
   unfolding malformedTest
   last-is = rw (le-ltb (length es) (length es) (omega arith), eq-eqb (length es) (length es) refl) refl
 
 -- ---- the list
 
-short-list : (text bs : List ℕ) → (leb (length text) longestText && leb (countOf bs) mostRecords) ≡ false → entries text bs ≡ noEntry ∷ []
-unfolding entries
-short-list text bs e = rw e refl
-
--- a text or a list over its limit is told at 0
-pub over : (text bs : List ℕ) → (length text ≤ longestText → countOf bs ≤ mostRecords → ⊥) → formed.Refused (malformedAt 0) ≡ formedOf (entries text bs)
-over text bs h = rw (short-list text bs (refuted (says-and (says-le (length text) longestText) (says-le (countOf bs) mostRecords)) (λ w. h (w .0) (w .1)))) told
-  where
-    told : formed.Refused (malformedAt 0) ≡ formedOf (noEntry ∷ [])
-    told = told-at (noEntry ∷ []) 0 (omega arith) (inside-is (noEntry ∷ []) 0 (omega arith) ∙ rw none-unsound refl) (λ j h. absurd (not-suc-le-zero h))
-
 module _ (text bs : List ℕ) (short : length text ≤ longestText) (few : countOf bs ≤ mostRecords) where
-  front : List Entry
+  abbrev front : List Entry
   front = upTo (countOf bs) (λ i. entry text (recordOf bs i))
 
   -- a piece of a record at the end is one entry more
@@ -104,15 +83,13 @@ module _ (text bs : List ℕ) (short : length text ≤ longestText) (few : count
   rest = cond (eqb (length bs % recordBytes) 0) [] (noEntry ∷ [])
 
   list-is : entries text bs ≡ front ++ rest
-  unfolding entries front
+  unfolding entries
   list-is = rw (le-leb (length text) longestText short, le-leb (countOf bs) mostRecords few) refl
 
   front-length : length front ≡ countOf bs
-  unfolding front
   front-length = length-up-to (countOf bs) (λ i. entry text (recordOf bs i))
 
   pub entry-at : (i : ℕ) → i < countOf bs → entryAt (entries text bs) i ≡ entry text (recordOf bs i)
-  unfolding front
   entry-at i h =
       ap (λ (l : List Entry). entryAt l i) list-is
       ∙ List·getD-append front rest noEntry i (omega (arith, front-length, h))
@@ -124,15 +101,73 @@ module _ (text bs : List ℕ) (short : length text ≤ longestText) (few : count
   pub whole-length : length bs % recordBytes ≡ 0 → length (entries text bs) ≡ countOf bs
   whole-length e = length-is ∙ rw (eq-eqb (length bs % recordBytes) 0 e) (omega arith)
 
-  pub piece-length : (length bs % recordBytes ≡ 0 → ⊥) → length (entries text bs) ≡ suc (countOf bs)
-  piece-length f = length-is ∙ rw (ne-eqb (length bs % recordBytes) 0 f) (omega arith)
-
   -- no record stands behind the last
-  pub none-behind : entryAt (entries text bs) (countOf bs) ≡ noEntry
+  none-behind : entryAt (entries text bs) (countOf bs) ≡ noEntry
   none-behind =
       let n : countOf bs ≡ length front + 0 = omega (arith, front-length) in
-      rw (list-is, n, getD-append-add front rest 0 noEntry)
-      (cond-of (λ (l : List Entry). getD l 0 noEntry ≡ noEntry) (eqb (length bs % recordBytes) 0) [] (noEntry ∷ []) (λ e. refl) (λ e. refl))
+      ap (λ (l : List Entry). entryAt l (countOf bs)) list-is ∙ ap (λ (m : ℕ). getD (front ++ rest) m noEntry) n ∙ getD-append-add front rest 0 noEntry
+      ∙ cond-of (λ (l : List Entry). getD l 0 noEntry ≡ noEntry) (eqb (length bs % recordBytes) 0) [] (noEntry ∷ []) (λ e. refl) (λ e. refl)
 
-  pub count-le : countOf bs ≤ length (entries text bs)
-  count-le = omega (arith, length-is)
+  -- ---- the places, one by one
+
+  limits : inLimits text bs ≡ true
+  limits = rw (le-leb (length text) longestText short, le-leb (countOf bs) mostRecords few) refl
+
+  -- the kind at a place that is not at fault is the entry's
+  kind-here : (j : ℕ) → j < countOf bs → fineBy true text bs j ≡ true → entryAt (entries text bs) j .kind ≡ kindTold true text (recordOf bs j)
+  kind-here j h e =
+      let g = stable (says-record text (recordOf bs j) true) (λ f. says-fine true text bs j .so e .1 .0 h (inl f)) in
+      ap (λ (e : Entry). e .kind) (entry-at j h) ∙ entry-kind text (recordOf bs j) g
+
+  -- where no lower place is at fault a place is by the entries exactly if it is by the kinds
+  module _ (i : ℕ) (h : i ≤ countOf bs) (fine : EachBelow i (λ j. fineBy true text bs j ≡ true)) where
+    passed : Passed true text bs i (anyGuess (entries text bs) i)
+    passed = record { each = fine; seen = any-alike _ _ i (λ j k. ap isGuess (kind-here j (omega (arith, h, k)) (fine j k))) }
+
+    same : malformedTest (entries text bs) i ≡ not (fineBy true text bs i)
+    same =
+        elim (decLt i (countOf bs)) [
+          | yes b ↦ inside-is (entries text bs) i (omega (arith, length-is, b))
+              ∙ ap (λ (e : Entry). faultTest e (eqb i 0) (anyGuess (entries text bs) i)) (entry-at i b)
+              ∙ misplaced-is text (recordOf bs i) short i (anyGuess (entries text bs) i)
+              ∙ sym (ap not (here-is true text bs limits i _ passed b _ refl) ∙ Bool·not-not _)
+          | no f ↦ (let n : i ≡ countOf bs = omega (arith, f) in
+              end n (eqb (length bs % recordBytes) 0) refl ∙ sym (ap not (end-is true text bs limits i _ passed n)))
+        ]
+      where
+        end : i ≡ countOf bs → (w : Bool) → eqb (length bs % recordBytes) 0 ≡ w → malformedTest (entries text bs) i ≡ not (w && anyGuess (entries text bs) i)
+        end n true e = rw (n, ← whole-length (eqb-true (length bs % recordBytes) 0 e)) (last-is (entries text bs))
+        end n false e =
+            inside-is (entries text bs) i (omega (arith, n, rw e at length-is)) ∙ rw (n, none-behind, none-unsound) refl
+
+  clean : (i : ℕ) → i ≤ suc (countOf bs) → EachBelow i (λ j. fineBy true text bs j ≡ true) → EachBelow i (λ j. malformedTest (entries text bs) j ≡ false)
+  clean i h fine j k = same j (omega (arith, h, k)) (λ m l. fine m (omega (arith, k, l))) ∙ ap not (fine j k)
+
+  in-limits : formedOf (entries text bs) ≡ formedBy true text bs
+  unfolding formedOf formedBy
+  in-limits = go _ (searched _ _ (λ j. says-not (says-so {b = fineBy true text bs j})) (suc (countOf bs)))
+    where
+      fines : {i : ℕ} → Nowhere (λ j. fineBy true text bs j ≡ true → ⊥) i → EachBelow i (λ j. fineBy true text bs j ≡ true)
+      fines f j k = stable says-so (f j k)
+
+      go : (o : Option ℕ) → Searched (λ j. fineBy true text bs j ≡ true → ⊥) (suc (countOf bs)) o → formedOf (entries text bs) ≡ verdict o
+      go (some i) (at l) =
+          let f = fines (l .below) in
+          let here = same i (omega (arith, l .inside)) f ∙ ap not (refuted says-so (l .here)) in
+          ap verdict (stops-here _ _ i (omega (arith, l .inside, length-is)) here (clean i (omega (arith, l .inside)) f))
+      go none (nowhere never) =
+          let f = fines never in
+          let w = says-fine true text bs (countOf bs) .so (f (countOf bs) (omega arith)) .1 .1 (λ h. omega (arith, h)) .0 in
+          ap verdict (goes-through _ _ (λ j k. clean (suc (countOf bs)) (omega arith) f j (omega (arith, k, whole-length w))))
+
+-- what is told of the entries is told by the kinds
+pub told-by-kinds : (text bs : List ℕ) → formedOf (entries text bs) ≡ formedBy true text bs
+unfolding entries formedOf lowest malformedTest soundTest
+told-by-kinds text bs = go (inLimits text bs) refl
+  where
+    said : Says (inLimits text bs) ((length text ≤ longestText) × (countOf bs ≤ mostRecords))
+    said = says-and (says-le (length text) longestText) (says-le (countOf bs) mostRecords)
+
+    go : (l : Bool) → inLimits text bs ≡ l → formedOf (entries text bs) ≡ formedBy true text bs
+    go true e = in-limits text bs (said .so e .0) (said .so e .1)
+    go false e = rw e refl ∙ over true text bs e

@@ -1,95 +1,122 @@
--- A loop over the records of a list: no place passed is at fault, and it is known whether a guess was passed. Assumes nothing.
+-- A list by the kinds of its records: it is at fault nowhere exactly if it is within its limits, of whole records, each as it should, and
+-- instructions stand before guesses; and what a loop over the records has found. Assumes nothing.
 use mathlib.Core.Path.{_≡_, refl, sym, ap, _∙_}
-use mathlib.Core.Logic.{⊎-elim}
-use mathlib.Core.Bool.{Bool, true, false, not, _||_, true≢false}
+use mathlib.Core.Logic.{_⊎_, inl, inr, _↔_, ⊎-elim}
+use mathlib.Core.Bool.{Bool, true, false, not, _&&_, _||_}
 use mathlib.Core.List.{List}
-use Prim.Native.Nat.{ℕ, _+_, _%_, _≤_, _<_}
+use Prim.Native.Nat.{ℕ, suc, _+_, _%_, _≤_, _<_}
 use native.Mathlib.Nat.{not-suc-le-zero}
 use native.Mathlib.Omega.{arith}
 use native.Mathlib.Numerals.{add-one}
 use lib.Dec.{eqb}
 use lib.ListN.{length}
 use borrow.Author.Count.{below-more}
-use borrow.Author.Tests.{eqb-true, eqb-false}
-use Rattle.refusal.specs.First.{EachBelow, anyBelow}
-use Rattle.refusal.proofs.Says.{stable, below-suc}
+use borrow.Author.Tests.{lt-ltb, le-ltb}
+use Rattle.refusal.specs.First.{SomeBelow, EachBelow}
+use Rattle.refusal.proofs.Says.{Says, stable, below-suc, says-not, says-and, says-or, says-cond, says-eq, says-le, says-lt, says-any}
+use Rattle.refusal.proofs.Search.{stops-here, goes-through}
 use Rattle.record.specs.declared.formed.Formed.the-variants as formed
-use Rattle.record.specs.Steps.{goodKind, misplaced}
-use Rattle.record.specs.Record.{recordBytes, mostRecords, longestText}
-use Rattle.record.specs.Decode.{isGuess, countOf, recordOf}
-use Rattle.record.specs.Entry.{Entry, entryAt}
-use Rattle.record.specs.Sound.{Good}
-use Rattle.record.specs.Formed.{malformedAt, entries, anyGuess, faultTest, malformedTest, formedOf}
-use Rattle.record.proofs.Agree.{says-good, none-unsound, kind-of-bad}
-use Rattle.record.proofs.Entries.{entry-kind, misplaced-is, told-at, none-told, inside-is, last-is, entry-at, whole-length, piece-length, none-behind, count-le}
+use Rattle.record.specs.Record.{recordBytes, mostRecords, longestText, firstGuess}
+use Rattle.record.specs.Decode.{isGuess, decode, countOf, recordOf}
+use Rattle.record.specs.Formed.{malformedAt, misplaced, verdict}
+use Rattle.record.specs.Laid.{kindTold, guessBy, inLimits, fineBy, formedBy, ListOf}
+use Rattle.record.proofs.Told.{none-told-iff}
+use Rattle.record.proofs.Records.{RecordBy, says-record, kind-of, says-bad}
+use Rattle.record.proofs.Parted.{GuessAt, OutOfPlace, parted, in-place, guess-in}
 
--- what holds before place i, by a test of each place and whether a guess stands there
-pub record Passed (fault guess : ℕ → Bool) (i : ℕ) (guessed : Bool) : Type 0 where
-  pub each : EachBelow i (λ j. fault j ≡ false)
-  pub seen : guessed ≡ anyBelow i guess
+module _ (full : Bool) (text bs : List ℕ) where
+  -- ---- at fault nowhere
 
-module _ (fault guess : ℕ → Bool) where
-  pub start : Passed fault guess 0 false
+  abbrev kindIn : ℕ → ℕ
+  kindIn i = kindTold full text (recordOf bs i)
+
+  -- what a place that is not at fault says
+  abbrev Fine : ℕ → Type 0
+  Fine i =
+      ((length text ≤ longestText) × (countOf bs ≤ mostRecords))
+      × ((i < countOf bs → (RecordBy full text (recordOf bs i) → ⊥) ⊎ OutOfPlace kindIn i → ⊥)
+      × ((i < countOf bs → ⊥) → (length bs % recordBytes ≡ 0) × SomeBelow i (GuessAt kindIn)))
+
+  pub says-fine : (i : ℕ) → Says (fineBy full text bs i) (Fine i)
+  unfolding fineBy
+  says-fine i =
+      says-and (says-and (says-le (length text) longestText) (says-le (countOf bs) mostRecords))
+      (says-cond (says-lt i (countOf bs))
+      (says-not (says-or (says-bad text (recordOf bs i) full) (says-or (says-and (says-eq i 0) (guess i)) (says-and (says-not (guess i)) (says-any _ _ guess i)))))
+      (says-and (says-eq (length bs % recordBytes) 0) (says-any _ _ guess i)))
+    where
+      guess : (j : ℕ) → Says (isGuess (kindIn j)) (GuessAt kindIn j)
+      guess j = says-le firstGuess (kindIn j)
+
+  -- the kinds are what the records say
+  kinds : EachBelow (countOf bs) (λ i. RecordBy full text (recordOf bs i)) → EachBelow (countOf bs) (λ i. kindIn i ≡ decode (recordOf bs i) .kind)
+  kinds each i h = kind-of text (recordOf bs i) full (each i h)
+
+  listed : EachBelow (suc (countOf bs)) Fine → ListOf (RecordBy full text) text bs
+  listed f =
+      let each : EachBelow (countOf bs) (λ i. RecordBy full text (recordOf bs i))
+      = λ i h. stable (says-record text (recordOf bs i) full) (λ b. f i (omega (arith, h)) .1 .0 h (inl b)) in
+      let limits = f 0 (omega arith) .0 in
+      let end = f (countOf bs) (omega arith) .1 .1 (λ h. omega (arith, h)) in
+      let is-parted = parted bs kindIn (kinds each) (λ i h m. f i (omega (arith, h)) .1 .0 h (inr m)) (end .1) in
+      record { short = limits .0; few = limits .1; whole = end .0; each = each; parted = is-parted }
+
+  fine : ListOf (RecordBy full text) text bs → EachBelow (suc (countOf bs)) Fine
+  fine l i h =
+      let is = kinds (l .each) in
+      let end : (i < countOf bs → ⊥) → i ≡ countOf bs = λ f. omega (arith, f) in
+      ((l .short, l .few), (λ b. ⊎-elim (λ f. f (l .each i b)) (in-place bs kindIn is (l .parted) i b), λ f. (l .whole, rw (end f) (guess-in bs kindIn is (l .parted)))))
+
+  pub listed-iff : (formedBy full text bs ≡ formed.WellFormed) ↔ ListOf (RecordBy full text) text bs
+  unfolding formedBy
+  listed-iff =
+      let w = none-told-iff _ _ (λ i. says-not (says-fine i)) (suc (countOf bs)) in
+      (λ e. listed (λ i h. stable (says-fine i) (w .0 e i h)), λ l. w .1 (λ i h f. f (fine l i h)))
+
+  -- ---- a loop over the records
+
+  -- what holds before place i: no place is at fault, and it is known whether there was a guess
+  pub record Passed (i : ℕ) (guessed : Bool) : Type 0 where
+    pub each : EachBelow i (λ j. fineBy full text bs j ≡ true)
+    pub seen : guessed ≡ guessBy full text bs i
+
+  pub start : Passed 0 false
   start = record { each = λ j h. absurd (not-suc-le-zero h); seen = refl }
 
-  pub next : (i : ℕ) (guessed this : Bool) → Passed fault guess i guessed → fault i ≡ false → guess i ≡ this → Passed fault guess (i + 1) (guessed || this)
-  next i guessed this p f g = record { each = below-more _ _ (p .each) f; seen = rw (add-one, g, p .seen) refl }
+  told : (i : ℕ) → i ≤ countOf bs → fineBy full text bs i ≡ false → EachBelow i (λ j. fineBy full text bs j ≡ true)
+      → formed.Refused (malformedAt i) ≡ formedBy full text bs
+  unfolding formedBy
+  told i h e f = sym (ap verdict (stops-here _ (suc (countOf bs)) i (omega (arith, h)) (ap not e) (λ j k. ap not (f j k))))
 
--- ---- the entries of a list
+  pub over : inLimits text bs ≡ false → formed.Refused (malformedAt 0) ≡ formedBy full text bs
+  unfolding fineBy
+  over e = told 0 (omega arith) (rw e refl) (λ j h. absurd (not-suc-le-zero h))
 
--- what holds before entry i
-abbrev pub PassedIn : List Entry → ℕ → Bool → Type 0
-PassedIn es = Passed (malformedTest es) (λ j. isGuess (entryAt es j .kind))
+  module _ (limits : inLimits text bs ≡ true) (i : ℕ) (guessed : Bool) (p : Passed i guessed) where
+    -- a record, by its kind
+    module _ (h : i < countOf bs) (kind : ℕ) (k : kind ≡ kindIn i) where
+      pub here-is : fineBy full text bs i ≡ not (misplaced kind i guessed)
+      unfolding fineBy
+      here-is = rw (limits, lt-ltb i (countOf bs) h, k, p .seen) refl
 
--- a kind that is not 0 is a good record's
-good-of : (text b : List ℕ) (i : ℕ) (guessed : Bool) → misplaced (goodKind text b) i guessed ≡ false → Good text b
-good-of text b i guessed e =
-    stable (says-good text b) (λ f. true≢false (sym (ap (λ (k : ℕ). misplaced k i guessed) (sym (kind-of-bad text b f))) ∙ e))
+      pub fault : misplaced kind i guessed ≡ true → formed.Refused (malformedAt i) ≡ formedBy full text bs
+      fault e = told i (omega (arith, h)) (here-is ∙ ap not e) (p .each)
 
-module _ (text bs : List ℕ) (short : length text ≤ longestText) (few : countOf bs ≤ mostRecords) (i : ℕ) (guessed : Bool) (p : PassedIn (entries text bs) i guessed) where
-  module _ (h : i < countOf bs) (kind : ℕ) (k : kind ≡ goodKind text (recordOf bs i)) where
-    -- the test of the place is that of the kind
-    here-is : malformedTest (entries text bs) i ≡ misplaced kind i guessed
-    here-is =
-        inside-is (entries text bs) i (omega (arith, count-le text bs short few, h))
-        ∙ ap (λ (e : Entry). faultTest e (eqb i 0) (anyGuess (entries text bs) i)) (entry-at text bs short few i h)
-        ∙ sym (misplaced-is text (recordOf bs i) short i (anyGuess (entries text bs) i))
-        ∙ rw (k, p .seen) refl
+      pub next : misplaced kind i guessed ≡ false → Passed (i + 1) (guessed || isGuess kind)
+      next e = record { each = below-more _ _ (p .each) (here-is ∙ ap not e); seen = rw (add-one, k, p .seen) refl }
 
-    pub fault : misplaced kind i guessed ≡ true → formed.Refused (malformedAt i) ≡ formedOf (entries text bs)
-    fault e = told-at (entries text bs) i (omega (arith, count-le text bs short few, h)) (here-is ∙ e) (p .each)
+    -- the place behind the last
+    module _ (n : i ≡ countOf bs) where
+      pub end-is : fineBy full text bs i ≡ eqb (length bs % recordBytes) 0 && guessed
+      unfolding fineBy
+      end-is = rw (limits, le-ltb i (countOf bs) (omega arith), p .seen) refl
 
-    pub more : misplaced kind i guessed ≡ false → PassedIn (entries text bs) (i + 1) (guessed || isGuess kind)
-    more e =
-        let g : Good text (recordOf bs i) = good-of text (recordOf bs i) i guessed (rw k at e) in
-        let n : entryAt (entries text bs) i .kind ≡ kind = ap (λ (e : Entry). e .kind) (entry-at text bs short few i h) ∙ entry-kind text (recordOf bs i) g ∙ sym k in
-        next _ _ i guessed (isGuess kind) p (here-is ∙ e) (ap isGuess n)
+      pub end-good : eqb (length bs % recordBytes) 0 && guessed ≡ true → formed.WellFormed ≡ formedBy full text bs
+      unfolding formedBy
+      end-good e =
+          let each : EachBelow (suc (countOf bs)) (λ j. fineBy full text bs j ≡ true)
+          = λ j h. ⊎-elim (λ q. ap (fineBy full text bs) (q ∙ sym n) ∙ end-is ∙ e) (λ l. p .each j (omega (arith, l, n))) (below-suc h) in
+          sym (ap verdict (goes-through _ (suc (countOf bs)) (λ j h. ap not (each j h))))
 
-  -- behind the last record: a piece of a record, or a guess that is due
-  module _ (n : i ≡ countOf bs) where
-    whole-end : length bs % recordBytes ≡ 0 → i ≡ length (entries text bs)
-    whole-end w = n ∙ sym (whole-length text bs short few w)
-
-    end-is : malformedTest (entries text bs) i ≡ not (eqb (length bs % recordBytes) 0) || not guessed
-    end-is = go (eqb (length bs % recordBytes) 0) refl
-      where
-        go : (w : Bool) → eqb (length bs % recordBytes) 0 ≡ w → malformedTest (entries text bs) i ≡ not w || not guessed
-        go true e =
-            let l = whole-end (eqb-true (length bs % recordBytes) 0 e) in
-            ap (malformedTest (entries text bs)) l ∙ last-is (entries text bs) ∙ ap not (sym (p .seen ∙ ap (anyGuess (entries text bs)) l))
-        go false e =
-            inside-is (entries text bs) i (omega (arith, n, piece-length text bs short few (eqb-false (length bs % recordBytes) 0 e)))
-            ∙ rw (n, none-behind text bs short few, none-unsound) refl
-
-    pub end-fault : (not (eqb (length bs % recordBytes) 0) || not guessed) ≡ true → formed.Refused (malformedAt (countOf bs)) ≡ formedOf (entries text bs)
-    end-fault e = ap (λ (k : ℕ). formed.Refused (malformedAt k)) (sym n) ∙ told-at (entries text bs) i (omega (arith, count-le text bs short few, n)) (end-is ∙ e) (p .each)
-
-    pub end-good : (not (eqb (length bs % recordBytes) 0) || not guessed) ≡ false → formed.WellFormed ≡ formedOf (entries text bs)
-    end-good e =
-        let l = whole-end (eqb-true (length bs % recordBytes) 0 (not-piece (eqb (length bs % recordBytes) 0) (not guessed) e)) in
-        none-told (entries text bs)
-        (λ j h. ⊎-elim (λ k. ap (malformedTest (entries text bs)) (k ∙ sym l) ∙ end-is ∙ e) (λ k. p .each j (omega (arith, k, l))) (below-suc h))
-      where
-        not-piece : (w x : Bool) → (not w || x) ≡ false → w ≡ true
-        not-piece true x e = refl
-        not-piece false x e = absurd (true≢false e)
+      pub end-fault : eqb (length bs % recordBytes) 0 && guessed ≡ false → formed.Refused (malformedAt (countOf bs)) ≡ formedBy full text bs
+      end-fault e = ap (λ (k : ℕ). formed.Refused (malformedAt k)) (sym n) ∙ told i (omega (arith, n)) (end-is ∙ e) (p .each)

@@ -2,6 +2,7 @@
 -- nowhere: the test of a place says its statement. Assumes nothing.
 use mathlib.Core.Path.{_≡_, refl, ap}
 use mathlib.Core.Logic.{_⊎_, inl, inr, _↔_}
+use mathlib.Core.Bool.{Bool}
 use mathlib.Core.Option.{Option, none, some}
 use mathlib.Core.List.{List}
 use Prim.Native.Nat.{ℕ, _<_}
@@ -39,18 +40,25 @@ to-cases es i (guess-first h z g) = inl (h, inr (inl (z, g)))
 to-cases es i (after-guess h n s) = inl (h, inr (inr (n, s)))
 to-cases es i (no-guess e f) = inr (e, f)
 
-place-of : (o : Option ℕ) (i : ℕ) → verdict o ≡ formed.Refused (malformedAt i) → o ≡ some i
-place-of (some j) i e =
-    let m : malformedAt j ≡ malformedAt i = cc in
+-- one verdict is of one place
+verdict-same : (o p : Option ℕ) → verdict o ≡ verdict p → o ≡ p
+verdict-same (some i) (some j) e =
+    let m : malformedAt i ≡ malformedAt j = cc in
     ap (λ (r : Refusal). some (r .place)) m
-place-of none i e = cc
+verdict-same (some i) none e = cc
+verdict-same none (some j) e = cc
+verdict-same none none e = refl
 
-none-of : (o : Option ℕ) → verdict o ≡ formed.WellFormed → o ≡ none
-none-of (some j) e = cc
-none-of none e = refl
+-- where a test of each place says its statement, a place is told exactly if it is the lowest, and nothing is exactly if there is none
+module _ (p : ℕ → Bool) (P : ℕ → Type 0) (s : (i : ℕ) → Says (p i) (P i)) (n : ℕ) where
+  told-iff : (i : ℕ) → (verdict (lowest n p) ≡ formed.Refused (malformedAt i)) ↔ Lowest P n i
+  told-iff i = (λ e. lowest-iff p P s n i .0 (verdict-same _ (some i) e), λ w. ap verdict (lowest-iff p P s n i .1 w))
+
+  pub none-told-iff : (verdict (lowest n p) ≡ formed.WellFormed) ↔ Nowhere P n
+  none-told-iff = (λ e. none-iff p P s n .0 (verdict-same _ none e), λ w. ap verdict (none-iff p P s n .1 w))
 
 module _ (es : List Entry) where
-  pub says-guess : (i : ℕ) → Says (isGuess (entryAt es i .kind)) (GuessEntry (entryAt es i))
+  says-guess : (i : ℕ) → Says (isGuess (entryAt es i .kind)) (GuessEntry (entryAt es i))
   says-guess i = says-le firstGuess (entryAt es i .kind)
 
   pub says-malformed : (i : ℕ) → Says (malformedTest es i) (Malformed es i)
@@ -66,13 +74,9 @@ module _ (es : List Entry) where
   -- 30 is told at i exactly if the list is at fault there and at no lower place
   pub refused-iff : (i : ℕ) → (formedOf es ≡ formed.Refused (malformedAt i)) ↔ Lowest (Malformed es) (places es) i
   unfolding formedOf
-  refused-iff i =
-      let l = lowest-iff (malformedTest es) (Malformed es) says-malformed (places es) i in
-      (λ e. l .0 (place-of (lowest (places es) (malformedTest es)) i e), λ w. ap verdict (l .1 w))
+  refused-iff = told-iff (malformedTest es) (Malformed es) says-malformed (places es)
 
   -- a list passes exactly if it is at fault nowhere
   pub passed-iff : (formedOf es ≡ formed.WellFormed) ↔ Nowhere (Malformed es) (places es)
   unfolding formedOf
-  passed-iff =
-      let l = none-iff (malformedTest es) (Malformed es) says-malformed (places es) in
-      (λ e. l .0 (none-of (lowest (places es) (malformedTest es)) e), λ w. ap verdict (l .1 w))
+  passed-iff = none-told-iff (malformedTest es) (Malformed es) says-malformed (places es)

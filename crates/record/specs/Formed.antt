@@ -91,6 +91,10 @@ abbrev pub faultTest : Entry → Bool → Bool → Bool
 faultTest e at-first behind-guess =
     not (soundTest e) || ((at-first && isGuess (e .kind)) || (not (isGuess (e .kind)) && behind-guess))
 
+-- the same by the kind of a record, with 0 for one that is not sound, and by its place
+abbrev pub misplaced : ℕ → ℕ → Bool → Bool
+misplaced kind i behind-guess = eqb kind 0 || ((eqb i 0 && isGuess kind) || (not (isGuess kind) && behind-guess))
+
 -- the list is at fault at place i
 unfoldable pub malformedTest : List Entry → ℕ → Bool
 malformedTest es i =

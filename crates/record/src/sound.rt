@@ -4,18 +4,16 @@ ghost use mathlib.Core.Bool.{true, false, not, _&&_, _||_};
 ghost use Prim.Native.Nat.{_+_, _≤_, _<_};
 ghost use lib.Dec.{leb, eqb};
 ghost use lib.ListN.{length};
-ghost use Rattle.refusal.specs.First.{EachBelow};
 ghost use Rattle.bytes.specs.Little.{byte, u16};
-ghost use Rattle.record.specs.Kinds.{table};
-ghost use Rattle.record.specs.Record.{recordBytes, labelPlaces};
+ghost use Rattle.record.specs.Kinds.{table, kindAt};
+ghost use Rattle.record.specs.Record.{recordBytes, firstGuess};
 ghost use Rattle.record.specs.Decode.{isGuess, decode};
 ghost use Rattle.record.specs.Entry.{part};
-ghost use Rattle.record.specs.Sound.{Placed, spelledTest, allPlaced, endedTest};
-ghost use Rattle.record.specs.Steps.{Headed, headTest, restTest, spelledAll, goodKind};
-ghost use Rattle.record.specs.Laid.{laidKind};
+ghost use Rattle.record.specs.Sound.{spelledTest, allPlaced, endedTest};
+ghost use Rattle.record.specs.Laid.{headBy, restTest, shapeTest, spelledAll, labelTest, kindTold};
+ghost use Rattle.record.specs.Steps.{Shaped};
 use super::LONGEST;
 use super::MARK;
-use super::Record;
 use super::SIZE;
 use super::View;
 use super::decode;
@@ -29,11 +27,11 @@ fn spelled(label: &[u8], dotted: bool) -> bool
     ensures { λ r. ⌜ r ≡ spelledTest dotted (now (label .entry)) ⌝ }
 {
     let at = Stand::At(0);
-    let read = if dotted {
-        text::parse_label_opt_suffix(label, at)
-    } else {
-        text::parse_label(label, at)
-    };
+    if dotted {
+        let read = text::parse_label_opt_suffix(label, at);
+        return (0 < read.len) & (read.len == label.len());
+    }
+    let read = text::parse_label(label, at);
     (0 < read.len) & (read.len == label.len())
 }
 
@@ -51,14 +49,18 @@ fn spelled_if(text: &[u8], v: View, used: bool, dotted: bool) -> bool
 }
 
 // Whether each label of a record is spelled as one.
-fn spelled_all(text: &[u8], r: Record, dotted: bool) -> bool
-    requires { ⌜ EachBelow labelPlaces (Placed (now text) r) ⌝ }
-    ensures { λ b. ⌜ b ≡ spelledAll (now (text .entry)) r dotted ⌝ }
+fn spelled_all(text: &[u8], b: &[u8], dotted: bool) -> bool
+    requires { ⌜ Shaped (now text) (now b) ⌝ }
+    ensures { λ r. ⌜ r ≡ spelledAll (now (text .entry)) (decode (now (b .entry))) dotted ⌝ }
 {
-    spelled_if(text, r.labels[0], 0 < r.count, dotted)
-        & spelled_if(text, r.labels[1], 1 < r.count, dotted)
-        & spelled_if(text, r.labels[2], 2 < r.count, dotted)
-        & spelled_if(text, r.labels[3], 3 < r.count, dotted)
+    let n = b[3] as usize;
+    let mut all = true;
+    let mut q = 0;
+    while q < n {
+        all = all & spelled_if(text, decode::view_at(b, 4 + q * 4), true, dotted);
+        q += 1;
+    }
+    all
 }
 
 // Whether the view in the four bytes from k on lies inside a text of n bytes.
@@ -81,29 +83,21 @@ fn empty(b: &[u8], k: usize) -> bool
 
 // Whether each label place of an instruction lies inside a text of n bytes, or has zeros where it is not used.
 fn placed(b: &[u8], n: usize) -> bool
-    requires { ⌜ (length (now b) ≡ recordBytes) × (isGuess (byte (now b) 1) ≡ false) × (0 < byte (now b) 3) × (byte (now b) 3 ≤ labelPlaces) ⌝ }
+    requires { ⌜ (length (now b) ≡ recordBytes) × (isGuess (byte (now b) 1) ≡ false) × (0 < byte (now b) 3) ⌝ }
     ensures { λ r. ⌜ r ≡ allPlaced (decode (now (b .entry))) n ⌝ }
 {
-    if !inside(b, 4, n) {
-        return false;
-    }
     let labels = b[3];
     if labels == 1 {
-        return (decode::u64_at(b, 8) == 0) & empty(b, 16);
-    }
-    if !inside(b, 8, n) {
-        return false;
+        return inside(b, 4, n) & (decode::u64_at(b, 8) == 0) & empty(b, 16);
     }
     if labels == 2 {
-        return decode::u64_at(b, 12) == 0;
+        return inside(b, 4, n) & inside(b, 8, n) & (decode::u64_at(b, 12) == 0);
     }
-    if !inside(b, 12, n) {
-        return false;
-    }
+    let three = inside(b, 4, n) & inside(b, 8, n) & inside(b, 12, n);
     if labels == 3 {
-        return empty(b, 16);
+        return three & empty(b, 16);
     }
-    inside(b, 16, n)
+    three & inside(b, 16, n)
 }
 
 // Whether a guess ends in zeros.
@@ -114,83 +108,69 @@ fn ended(b: &[u8]) -> bool
     (b[24] == 0) & (b[25] == 0) & (b[26] == 0) & (b[27] == 0)
 }
 
-// Whether the mark, the count of labels and the third byte of a record are as its kind allows.
-fn headed(kinds: &[[u8; 8]; 26], b: &[u8]) -> bool
-    requires { ⌜ (now kinds ≡ table) × (length (now b) ≡ recordBytes) ⌝ }
-    ensures { λ r. ⌜ r ≡ headTest (now (b .entry)) ⌝ }
+// Whether the mark, the count of labels and the third byte of a record are as a kind with so many labels and third bytes allows.
+fn headed(b: &[u8], labels: u8, thirds: u8) -> bool
+    requires { ⌜ length (now b) ≡ recordBytes ⌝ }
+    ensures { λ r. ⌜ r ≡ headBy labels thirds (now (b .entry)) ⌝ }
 {
-    let kind = b[1];
-    let labels = kinds::look(kinds, kind, kinds::LABELS);
-    if !((b[0] == MARK) & ((0 < labels) & (b[3] == labels))) {
-        return false;
-    }
-    let thirds = kinds::look(kinds, kind, kinds::THIRDS);
-    let third = b[2];
-    (third <= thirds) & (!(0 < thirds) | (0 < third))
+    ((b[0] == MARK) & ((0 < labels) & (b[3] == labels)))
+        & ((b[2] <= thirds) & (!(0 < thirds) | (0 < b[2])))
 }
 
-// Whether the label, the numbers and the end of a guess are as they should, over a text of n bytes.
-fn guess_rest(kinds: &[[u8; 8]; 26], b: &[u8], n: usize) -> bool
-    requires { ⌜ (now kinds ≡ table) × Headed (now b) × (isGuess (byte (now b) 1) ≡ true) ⌝ }
-    ensures { λ r. ⌜ r ≡ restTest n (now (b .entry)) ⌝ }
-{
-    if !inside(b, 4, n) {
-        return false;
-    }
-    if !ended(b) {
-        return false;
-    }
-    if kinds::look(kinds, b[1], kinds::SORT) == kinds::PAIR {
-        return true;
-    }
-    decode::u64_at(b, 16) == 0
-}
-
-// Whether the labels and the number of an instruction are.
-fn instruction_rest(kinds: &[[u8; 8]; 26], b: &[u8], n: usize) -> bool
-    requires { ⌜ (now kinds ≡ table) × Headed (now b) × (isGuess (byte (now b) 1) ≡ false) ⌝ }
-    ensures { λ r. ⌜ r ≡ restTest n (now (b .entry)) ⌝ }
-{
-    if !placed(b, n) {
-        return false;
-    }
-    if kinds::look(kinds, b[1], kinds::SORT) != kinds::NONE {
-        return true;
-    }
-    decode::u64_at(b, 20) == 0
-}
-
-// Whether what follows the head of a record is as its kind allows, but for the spelling of its labels.
-fn rest(kinds: &[[u8; 8]; 26], b: &[u8], n: usize) -> bool
-    requires { ⌜ (now kinds ≡ table) × Headed (now b) ⌝ }
+// Whether what follows the head is, but for the spelling of the labels, over a text of n bytes and by the sort of number of its kind.
+fn rest(b: &[u8], n: usize, sort: u8) -> bool
+    requires { ⌜ (length (now b) ≡ recordBytes) × (0 < byte (now b) 3) × (firstGuess ≤ byte (now b) 1 → byte (now b) 3 ≤ 1) × (sort ≡ kindAt (byte (now b) 1) .number) ⌝ }
     ensures { λ r. ⌜ r ≡ restTest n (now (b .entry)) ⌝ }
 {
     if PAIR_GUESS <= b[1] {
-        return guess_rest(kinds, b, n);
+        return inside(b, 4, n)
+            & (ended(b)
+                & (((sort != kinds::NONE) | (decode::u64_at(b, 8) == 0))
+                    & ((sort == kinds::PAIR) | (decode::u64_at(b, 16) == 0))));
     }
-    instruction_rest(kinds, b, n)
+    placed(b, n) & ((sort != kinds::NONE) | (decode::u64_at(b, 20) == 0))
 }
 
-// The kind of a record that is good but, perhaps, for the spelling of its labels, if it is no declaration, and 0 of any other bytes.
-pub(crate) fn laid_kind(kinds: &[[u8; 8]; 26], text: &[u8], b: &[u8]) -> u8
+// Whether a record is as its kind allows, but for the spelling of its labels, over a text of n bytes.
+fn shaped(kinds: &[[u8; 8]; 26], b: &[u8], n: usize) -> bool
+    requires { ⌜ (now kinds ≡ table) × (length (now b) ≡ recordBytes) ⌝ }
+    ensures { λ r. ⌜ r ≡ shapeTest n (now (b .entry)) ⌝ }
+{
+    let labels = kinds::look(kinds, b[1], kinds::LABELS);
+    let thirds = kinds::look(kinds, b[1], kinds::THIRDS);
+    let sort = kinds::look(kinds, b[1], kinds::SORT);
+    if !headed(b, labels, thirds) {
+        return false;
+    }
+    rest(b, n, sort)
+}
+
+// Whether the labels that are looked at are spelled as labels: in full all of them, in a text that is not too long, and else that of a
+// declaration.
+fn labelled(kinds: &[[u8; 8]; 26], text: &[u8], b: &[u8], full: bool) -> bool
+    requires { ⌜ (now kinds ≡ table) × Shaped (now text) (now b) ⌝ }
+    ensures { λ r. ⌜ r ≡ labelTest full (now (text .entry)) (decode (now (b .entry))) ⌝ }
+{
+    if full {
+        let dotted = kinds::look(kinds, b[1], kinds::SPELLING) == kinds::DOTTED;
+        return (text.len() <= LONGEST) & spelled_all(text, b, dotted);
+    }
+    spelled_if(text, decode::view_at(b, 4), b[1] <= NEW_ARC, false)
+}
+
+// The kind of a record that is good, or that is but for the spelling of labels that no declaration has, and 0 of any other bytes.
+pub(crate) fn kind_by(kinds: &[[u8; 8]; 26], text: &[u8], b: &[u8], full: bool) -> u8
     requires { ⌜ now kinds ≡ table ⌝ }
-    ensures { λ r. ⌜ r ≡ laidKind (now (text .entry)) (now (b .entry)) ⌝ }
+    ensures { λ r. ⌜ r ≡ kindTold full (now (text .entry)) (now (b .entry)) ⌝ }
 {
     if b.len() != SIZE {
         return 0;
     }
-    if !headed(kinds, b) {
+    if !shaped(kinds, b, text.len()) {
         return 0;
     }
-    if !rest(kinds, b, text.len()) {
-        return 0;
-    }
-    let kind = b[1];
-    if NEW_ARC < kind {
-        return kind;
-    }
-    if spelled_if(text, decode::view_at(b, 4), true, false) {
-        kind
+    if labelled(kinds, text, b, full) {
+        b[1]
     } else {
         0
     }
@@ -199,20 +179,7 @@ pub(crate) fn laid_kind(kinds: &[[u8; 8]; 26], text: &[u8], b: &[u8]) -> u8
 // The kind of a good record, and 0 of any other bytes.
 pub(crate) fn good_kind(kinds: &[[u8; 8]; 26], text: &[u8], b: &[u8]) -> u8
     requires { ⌜ now kinds ≡ table ⌝ }
-    ensures { λ r. ⌜ r ≡ goodKind (now (text .entry)) (now (b .entry)) ⌝ }
+    ensures { λ r. ⌜ r ≡ kindTold true (now (text .entry)) (now (b .entry)) ⌝ }
 {
-    if LONGEST < text.len() {
-        return 0;
-    }
-    let kind = laid_kind(kinds, text, b);
-    if kind == 0 {
-        return 0;
-    }
-    let r = decode::fields(b);
-    let dotted = kinds::look(kinds, kind, kinds::SPELLING) == kinds::DOTTED;
-    if spelled_all(text, r, dotted) {
-        kind
-    } else {
-        0
-    }
+    kind_by(kinds, text, b, true)
 }

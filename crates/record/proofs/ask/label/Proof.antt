@@ -1,10 +1,9 @@
 -- `record::ask::label` meets its contract: the part from a start to an end begins that many places behind the text's own. Assumes nothing.
 use borrow.Author.Needs.{needs}
-use mathlib.Core.Path.{_≡_, refl, ap, _∙_}
+use mathlib.Core.Path.{_≡_, ap, _∙_}
 use Prim.Native.Nat.{ℕ, _+_, _-_}
 use native.Mathlib.Omega.{arith}
 use Rattle.record.specs.Entry.{part}
-use Rattle.record.proofs.Lent.{said-as}
 use Rattle.record.proofs.ask.label.Statement.{statement}
 use Rattle.record.proofs.ask.label.Tie as tie
 
@@ -13,7 +12,8 @@ returns c =
     let p = c .before .before .part-of in
     let v = p .result in
     let e : v .start + v .len - v .start ≡ v .len = omega arith in
-    said-as (ap (λ (n : ℕ). part (c .before .before .before .before .before .args .text .now) (v .start) n) e ∙ p .ensures .is) (p .ensures .starts) (record { is = refl; there = refl })
+    let text = c .before .before .before .before .before .args .text .now in
+    record { is = ap (λ (n : ℕ). part text (v .start) n) e ∙ p .ensures .is; there = rw (← p .ensures .starts) }
 
 pub label-spec : {M : Type 1} → statement M
 label-spec = tie.close (tie.spec (λ c κs. search needs) (λ c. omega (arith, c .before .part-of .ensures .inside)) (λ c. search needs) (λ c. search needs) (λ c. omega (arith, c .before .part-of .ensures .inside)) returns)
