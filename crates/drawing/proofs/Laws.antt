@@ -1,20 +1,23 @@
 -- Searches for any, counts, and what the table of kinds tells. Assumes nothing.
 use mathlib.Core.Path.{_≡_, refl, sym, _∙_}
-use mathlib.Core.Bool.{Bool, true, false, cond, true≢false}
+use mathlib.Core.Bool.{Bool, true, false, _&&_, cond, true≢false}
 use mathlib.Core.List.{List}
-use Prim.Native.Nat.{ℕ, zero, suc, _+_, _-_, _≤_, _<_}
-use native.Mathlib.Numerals.{add-one}
+use Prim.Native.Nat.{ℕ, zero, suc, _≤_, _<_}
 use native.Mathlib.Omega.{arith}
-use lib.Dec.{leb}
-use borrow.Author.Tests.{leb-true}
-use Rattle.ground.proofs.Lists.{all-at, either-le}
+use Rattle.ground.proofs.Lists.{either-le}
 use Rattle.refusal.specs.First.{EachBelow, anyBelow}
 use Rattle.refusal.proofs.Says.{refuted, says-so, says-any}
-use Rattle.record.specs.Kinds.{Kind, kinds, kindAt, noKind, labelsColumn, table, cell}
+use Rattle.record.specs.Kinds.{kinds, kindAt, labelsColumn, table, cell}
 use Rattle.record.proofs.Cells.{labels-is}
 use Rattle.names.specs.Labels.{within}
-use Rattle.names.proofs.Laws.{says-within}
 use Rattle.drawing.specs.Check.{countBelow}
+
+-- ---- tests
+
+-- what is asked only behind a test
+pub and-alike : (a b c : Bool) → (a ≡ true → b ≡ c) → (a && b) ≡ (a && c)
+and-alike true b c f = f refl
+and-alike false b c f = refl
 
 -- ---- a search for any
 
@@ -24,6 +27,11 @@ module _ (p : ℕ → Bool) (n : ℕ) where
 
   pub any-none : EachBelow n (λ j. p j ≡ false) → false ≡ anyBelow n p
   any-none f = sym (refuted (says-any p (λ j. p j ≡ true) (λ j. says-so) n) (λ w. true≢false (sym (w .2) ∙ f (w .0) (w .1))))
+
+-- a search that is made only where a test passes
+pub any-if : (t : Bool) (n : ℕ) (p : ℕ → Bool) → anyBelow (cond t n 0) p ≡ t && anyBelow n p
+any-if true n p = refl
+any-if false n p = refl
 
 -- ---- counts
 
@@ -39,24 +47,7 @@ unfolding countBelow
 count-le kinds low high zero = omega arith
 count-le kinds low high (suc n) = omega (arith, count-le kinds low high n, either-le (within low high (kinds n)) 1 0 1 (omega arith) (omega arith))
 
--- one record more is counted as its kind is in a range or not
-module _ (low high kind x : ℕ) where
-  pub counted-in : (low ≤ kind) × (kind ≤ high) → x + 1 ≡ x + cond (within low high kind) 1 0
-  counted-in h = rw (says-within low high kind .back h) refl
-
-  pub counted-out : ((low ≤ kind) × (kind ≤ high) → ⊥) → x ≡ x + cond (within low high kind) 1 0
-  counted-out f = rw (refuted (says-within low high kind) f) (omega arith)
-
--- a count of the first i kinds, one more
-pub count-more : (f : ℕ → ℕ) (low high i m n kind : ℕ) → m ≡ countBelow f low high i → kind ≡ f i → n ≡ m + cond (within low high kind) 1 0 → n ≡ countBelow f low high (i + 1)
-unfolding countBelow
-count-more f low high i m n kind em ek en = en ∙ rw (add-one, ← ek, em) refl
-
 -- ---- the table of kinds
-
--- no row of the table has more than four labels: one computed test
-pub four-labels : (k : ℕ) → kindAt k .labels ≤ 4
-four-labels k = leb-true (kindAt k .labels) 4 (all-at (λ (r : Kind). leb (r .labels) 4) kinds noKind refl refl k)
 
 -- the table as it is lent
 module _ (lent : List (List ℕ)) (is : lent ≡ table) (kind : ℕ) where

@@ -1,33 +1,35 @@
 -- The tests on numbers tell what the tests over labels tell: 31 where no declared label has a point, 32 and 33 where 31 holds nowhere, 34 and 35
 -- where 33 holds nowhere either. Assumes nothing.
 use mathlib.Core.Path.{_≡_, refl, sym, ap, _∙_}
-use mathlib.Core.Bool.{Bool, true, false, not, _&&_, _||_, true≢false}
+use mathlib.Core.Bool.{Bool, true, false, not, _&&_, _||_}
 use mathlib.Core.List.{List, [], _∷_, _++_}
-use Prim.Native.Nat.{ℕ, zero, suc, _+_, _*_, _%_, _≤_, _<_}
-use native.Mathlib.Decide.{decLt}
+use Prim.Native.Nat.{ℕ, suc, _+_, _*_, _%_, _≤_, _<_}
 use native.Mathlib.Omega.{arith}
 use lib.Dec.{eqb, ltb, leb}
-use lib.ListN.{length}
-use Rattle.ground.proofs.Pieces.{Each}
-use Rattle.refusal.specs.First.{EachBelow, anyBelow, first}
-use Rattle.refusal.proofs.Says.{Says, says-and, says-or, says-not, says-never, says-iff, says-eq, says-le, says-lt, says-once, says-so, says-any}
+use lib.ListN.{length, getD}
+use Rattle.ground.proofs.Lists.{and-first, and-second, all, all-at}
+use Rattle.refusal.specs.First.{EachBelow, allBelow, first}
+use Rattle.refusal.proofs.Says.{Says, fails, stable, says-and, says-or, says-not, says-if, says-never, says-iff, says-eq, says-le, says-lt, says-once, says-so, says-any, says-all}
 use Rattle.refusal.proofs.Alike.{any-alike, none-alike, first-alike}
-use Rattle.record.specs.Kinds.{kindAt, Declaration, Guess, newPoint, newArc, firstRule, lastRule, pairGuess, numberGuess}
+use Rattle.record.specs.Kinds.{kinds, kindAt, Declaration, Guess, newPoint, newArc, firstRule, lastRule, pairGuess, numberGuess}
 use Rattle.record.specs.Record.{mostRecords}
 use Rattle.record.specs.Entry.{Label, Entry, entryAt, labelNo}
-use Rattle.names.specs.Labels.{kindNo, nameNo, within, labelled, lowestOr}
+use Rattle.record.proofs.Table.{few-labels, declared-label, guess-label}
+use Rattle.names.specs.Labels.{kindNo, nameNo, same, within, labelled, lowestOr}
 use Rattle.names.specs.Cut.{stem, Pointless, knownParts, partNo, KnownPart}
-use Rattle.names.specs.Names.{declarer, nameFor, nameAt, sortBy, recordBy, placeBy, guessIn, guessPlaces, Clear}
+use Rattle.names.specs.Names.{declarer, perKind, perRecord, nameFor, nameAt, namesOf, sortBy, recordBy, placeBy, guessesOf, Clear}
 use Rattle.names.proofs.Laws.{says-same, says-within}
 use Rattle.names.proofs.First.{lowest-below}
 use Rattle.names.proofs.Cut.{part-small}
-use Rattle.names.proofs.Names.{says-labelled, name-of, name-so, record-told, unpacked, guess-at}
-use Rattle.drawing.specs.Needs.{Shape, point, circle, arc, declaring, Part, parts, Need, needOf, needAt, codeAt}
+use Rattle.names.proofs.Names.{says-labelled, name-of, name-so, name-inside, record-told, unpacked, says-tells, guess-named, guess-at}
+use Rattle.names.proofs.Tables.{names-at, guesses-at}
+use Rattle.drawing.specs.Needs.{Shape, point, circle, arc, declaring, Part, parts, Choice, Need, needs, needOf, needAt, codeAt}
 use Rattle.drawing.specs.Faults as faults
 use faults.{Named, Meets, declared-twice, wrong-label, no-such-part, guessed-twice, without-guess, behind30}
 use Rattle.drawing.specs.Check as check
 use check.{twice, wrongPlace, wrongLabelTest, noSuchPartTest, guessAt, guessed, anyUnguessed, lacks, withoutGuessTest, test}
-use Rattle.drawing.specs.Numbers.{sortOf, bySort, Numbers, nameBy, guessBy, declaredBefore, wrongName, anyWrongName, noPartNamed, guessedBefore, anyLacking, lacksBy, partLacking, testBy}
+use Rattle.drawing.specs.Numbers.{sortOf, bySort, ownNumbers, nameBy, declaredBefore, wrongName, anyWrongName, noPartNamed, guessedBefore, anyLacking, lacksBy, partLacking, testBy}
+use Rattle.drawing.proofs.Laws.{and-alike}
 use Rattle.drawing.proofs.Agree.{says-meets, agree}
 
 -- ---- what a place needs, by the sort
@@ -37,20 +39,27 @@ declares point = (omega arith, omega arith)
 declares circle = (omega arith, omega arith)
 declares arc = (omega arith, omega arith)
 
--- each suffix of a need is known
-abbrev EachKnown : Need → Type 0
-EachKnown [] = Unit {0}
-EachKnown (c ∷ cs) = KnownPart (c .suffix) × EachKnown cs
+-- a suffix that can stand behind a shape's label, as a test
+abbrev pub knownTest : Label → Bool
+knownTest t = same (stem t) [] && ltb (partNo t) knownParts
 
--- a sort that a place needs is that of one of its choices
-by-sort-so : (need : Need) (sort : ℕ) → EachKnown need → bySort need sort ≡ true → (s : Shape) × (suffix : Label) × KnownPart suffix × (sort ≡ sortOf s suffix)
-by-sort-so [] sort k e = absurd (true≢false (sym e))
-by-sort-so (c ∷ cs) sort k e = go (eqb sort (sortOf (c .shape) (c .suffix))) refl e (by-sort-so cs sort (k .1))
-  where
-    go : (t : Bool) → eqb sort (sortOf (c .shape) (c .suffix)) ≡ t → (t || bySort cs sort) ≡ true → (bySort cs sort ≡ true → (s : Shape) × (suffix : Label) × KnownPart suffix × (sort ≡ sortOf s suffix))
-        → (s : Shape) × (suffix : Label) × KnownPart suffix × (sort ≡ sortOf s suffix)
-    go true f g rest = (c .shape, c .suffix, k .0, says-eq _ _ .so f)
-    go false f g rest = rest g
+pub says-known : (t : Label) → Says (knownTest t) (KnownPart t)
+says-known t = says-iff (λ w. record { begins = w .0; one = w .1 }) (λ k. (k .begins, k .one)) (says-and (says-same (stem t) []) (says-lt (partNo t) knownParts))
+
+-- those of a need
+abbrev pub allKnown : Need → Bool
+allKnown = all (λ (c : Choice). knownTest (c .suffix))
+
+-- a sort that a place needs tells a known part
+abbrev tellsTest : Need → Bool
+tellsTest need = allBelow perRecord (λ sort. not (bySort need sort) || (ltb 0 sort && ltb (sort % perKind) knownParts))
+
+-- so it is for each code: two computed tests
+pub known-needs : (code : ℕ) → allKnown (needOf code) ≡ true
+known-needs = all-at allKnown needs [] refl refl
+
+met-tells : (code sort : ℕ) → sort < perRecord → bySort (needOf code) sort ≡ true → (0 < sort) × (sort % perKind < knownParts)
+met-tells code sort h = says-all _ _ (λ s. says-if {a = bySort (needOf code) s} says-so (says-and (says-lt 0 s) (says-lt (s % perKind) knownParts))) perRecord .so (all-at tellsTest needs [] refl refl code) sort h
 
 module _ (es : List Entry) (w : Clear es) where
   -- a label is that of a declared shape with a known part behind it exactly if its name has that sort
@@ -65,107 +74,51 @@ module _ (es : List Entry) (w : Clear es) where
           let d : Declaration (kindNo es j) = rw e (declares s) in
           unpacked j (kindNo es j) (partNo suffix) (nameFor es l) (part-small suffix) (d .1) (name-of es w j suffix l h d k n) .1 ∙ rw e refl
 
-  says-met : (need : Need) (l : Label) → EachKnown need → Says (bySort need (sortBy (nameFor es l))) (Meets es need l)
+  says-met : (need : Need) (l : Label) → allKnown need ≡ true → Says (bySort need (sortBy (nameFor es l))) (Meets es need l)
   says-met [] l k = says-never
-  says-met (c ∷ cs) l k = says-or (says-named (c .shape) (c .suffix) l (k .0)) (says-met cs l (k .1))
+  says-met (c ∷ cs) l k =
+      says-or (says-named (c .shape) (c .suffix) l (says-known (c .suffix) .so (and-first _ (allKnown cs) k))) (says-met cs l (and-second (knownTest (c .suffix)) _ k))
 
--- ---- the suffixes that stand in the table
+-- ---- the parts of a shape
 
-known : (suffix : Label) → stem suffix ≡ [] → partNo suffix < knownParts → KnownPart suffix
-known suffix b o = record { begins = b; one = o }
+-- a part's suffix is known, it is guessed by a guess, and a guess whose place needs its sort is of its kind
+abbrev PartOf : Shape → Part → Type 0
+PartOf s p =
+    KnownPart (p .suffix) × (Guess (p .guess) × EachBelow (length kinds) (λ k. Guess k × (bySort (needAt k 0) (sortOf s (p .suffix)) ≡ true) → k ≡ p .guess))
 
--- each suffix that a code needs is known: by the codes of the table
-known-needs : (code : ℕ) → EachKnown (needOf code)
-known-needs zero = tt
-known-needs (suc zero) = (known _ refl (omega arith), tt)
-known-needs (suc (suc zero)) = (known _ refl (omega arith), tt)
-known-needs (suc (suc (suc zero))) = (known _ refl (omega arith), tt)
-known-needs (suc (suc (suc (suc zero)))) = (known _ refl (omega arith), (known _ refl (omega arith), tt))
-known-needs (suc (suc (suc (suc (suc zero))))) = (known _ refl (omega arith), (known _ refl (omega arith), (known _ refl (omega arith), tt)))
-known-needs (suc (suc (suc (suc (suc (suc zero)))))) = (known _ refl (omega arith), (known _ refl (omega arith), (known _ refl (omega arith), (known _ refl (omega arith), (known _ refl (omega arith), tt)))))
-known-needs (suc (suc (suc (suc (suc (suc (suc zero))))))) = (known _ refl (omega arith), tt)
-known-needs (suc (suc (suc (suc (suc (suc (suc (suc n)))))))) = tt
+abbrev partTest : Shape → Part → Bool
+partTest s p =
+    knownTest (p .suffix)
+    && (within pairGuess numberGuess (p .guess) && allBelow (length kinds) (λ k. not (within pairGuess numberGuess k && bySort (needAt k 0) (sortOf s (p .suffix))) || eqb k (p .guess)))
 
--- a part of a shape: its suffix is known, and a guess whose place needs it is of the part's sort
-pub record PartOf (s : Shape) (p : Part) : Type 0 where
-  pub suffix-known : KnownPart (p .suffix)
-  pub guess-is : Guess (p .guess)
-  pub sort-is : (k : ℕ) → Guess k → bySort (needAt k 0) (sortOf s (p .suffix)) ≡ true → k ≡ p .guess
+says-part : (s : Shape) (p : Part) → Says (partTest s p) (PartOf s p)
+says-part s p =
+    says-and (says-known (p .suffix))
+    (says-and (says-within pairGuess numberGuess (p .guess)) (says-all _ _ (λ k. says-if (says-and (says-within pairGuess numberGuess k) says-so) (says-eq k (p .guess))) (length kinds)))
 
--- a guess is of one of two kinds
-guess-kinds : (P : ℕ → Type 0) → P pairGuess → P numberGuess → (k : ℕ) → Guess k → P k
-guess-kinds P a b k g =
-    elim (decLt k numberGuess) [
-      | yes h ↦ (let z : k ≡ pairGuess = omega (arith, g .0, h) in rw z a)
-      | no h ↦ (let z : k ≡ numberGuess = omega (arith, g .1, h) in rw z b)
-    ]
-
-a-pair : (s : Shape) (suffix : Label) → KnownPart suffix → bySort (needAt numberGuess 0) (sortOf s suffix) ≡ false → PartOf s (record { suffix = suffix; guess = pairGuess })
-a-pair s suffix k e = record {
-  suffix-known = k;
-  guess-is = (omega arith, omega arith);
-  sort-is = guess-kinds (λ k. bySort (needAt k 0) (sortOf s suffix) ≡ true → k ≡ pairGuess) (λ t. refl) (λ t. absurd (true≢false (sym t ∙ e)));
-}
-
-a-number : (s : Shape) (suffix : Label) → KnownPart suffix → bySort (needAt pairGuess 0) (sortOf s suffix) ≡ false → PartOf s (record { suffix = suffix; guess = numberGuess })
-a-number s suffix k e = record {
-  suffix-known = k;
-  guess-is = (omega arith, omega arith);
-  sort-is = guess-kinds (λ k. bySort (needAt k 0) (sortOf s suffix) ≡ true → k ≡ numberGuess) (λ t. absurd (true≢false (sym t ∙ e))) (λ t. refl);
-}
-
-pub parts-of : (s : Shape) → Each (PartOf s) (parts s)
-parts-of point = (a-pair _ _ (known _ refl (omega arith)) refl, tt)
-parts-of circle = (a-pair _ _ (known _ refl (omega arith)) refl, (a-number _ _ (known _ refl (omega arith)) refl, tt))
-parts-of arc = (a-pair _ _ (known _ refl (omega arith)) refl, (a-pair _ _ (known _ refl (omega arith)) refl, (a-pair _ _ (known _ refl (omega arith)) refl, tt)))
-
--- ---- the tables are the drawing's
-
-pub record Tabled (es : List Entry) (t : Numbers) : Type 0 where
-  pub count : t .count ≡ length es
-  pub few : length es ≤ mostRecords
-  pub kinds : (i : ℕ) → t .kinds i ≡ kindNo es i
-  pub names : (i q : ℕ) → i < length es → q < kindAt (kindNo es i) .labels → nameBy t i q ≡ nameAt es i q
-  pub guesses : (k : ℕ) → k < guessPlaces → guessBy t k ≡ guessIn es k
-
--- declarations and guesses have one label
-pub one-label : (k : ℕ) → Declaration k → kindAt k .labels ≡ 1
-one-label zero d = absurd (omega (arith, d .0))
-one-label (suc zero) d = refl
-one-label (suc (suc zero)) d = refl
-one-label (suc (suc (suc zero))) d = refl
-one-label (suc (suc (suc (suc k)))) d = absurd (omega (arith, d .1))
-
-pub one-label-guess : (k : ℕ) → Guess k → kindAt k .labels ≡ 1
-one-label-guess = guess-kinds (λ k. kindAt k .labels ≡ 1) refl refl
-
--- two choices alike where the first passes
-and-alike : (a b c : Bool) → (a ≡ true → b ≡ c) → (a && b) ≡ (a && c)
-and-alike true b c f = f refl
-and-alike false b c f = refl
-
-not-not : (a : Bool) → not a ≡ false → a ≡ true
-not-not true e = refl
-not-not false e = absurd (true≢false e)
+parts-of : (s : Shape) → all (partTest s) (parts s) ≡ true
+parts-of point = refl
+parts-of circle = refl
+parts-of arc = refl
 
 not-below : (a n : ℕ) → not (ltb a n) ≡ leb n a
 not-below a n = says-once (says-not (says-lt a n)) (says-iff (λ h. λ g. omega (arith, h, g)) (λ h. omega (arith, h)) (says-le n a))
 
--- the place of the part that a sort tells
-place-of : (name kind p : ℕ) → p ≤ 5 → sortBy name ≡ kind * 8 + p → placeBy name ≡ recordBy name * knownParts + p
-place-of name kind p a e = let z : name % 8 ≡ p = omega arith in rw z
+-- ---- a drawing with its own tables
 
-module _ (es : List Entry) (t : Numbers) (b : Tabled es t) where
-  name-first : (i : ℕ) → i < length es → kindAt (kindNo es i) .labels ≡ 1 → nameBy t i 0 ≡ nameFor es (nameNo es i)
-  name-first i h one = b .names i 0 h (omega (arith, one))
+module _ (es : List Entry) (few : length es ≤ mostRecords) where
+  name-here : (i q : ℕ) → i < length es → q < kindAt (kindNo es i) .labels → nameBy (namesOf es) i q ≡ nameAt es i q
+  name-here i q h g = names-at es i q (omega (arith, h, few)) (omega (arith, g, few-labels (kindNo es i))) g
+
+  -- that of a declaration or a guess
+  name-first : (i : ℕ) → i < length es → kindAt (kindNo es i) .labels ≡ 1 → nameBy (namesOf es) i 0 ≡ nameFor es (nameNo es i)
+  name-first i h one = name-here i 0 h (omega (arith, one))
 
   -- 31
   module _ (pointless : EachBelow (length es) (λ j. Declaration (kindNo es j) → Pointless (nameNo es j))) where
-    same-31 : EachBelow (length es) (λ i. twice es newPoint newArc i ≡ declaredBefore t i)
+    same-31 : EachBelow (length es) (λ i. twice es newPoint newArc i ≡ declaredBefore (kindNo es i) (namesOf es) i)
     unfolding twice declaredBefore
-    same-31 i h =
-        rw (b .kinds i) (and-alike (within newPoint newArc (kindNo es i)) _ _
-        (λ e.
+    same-31 i h = and-alike (within newPoint newArc (kindNo es i)) _ _ (λ e.
         let d : Declaration (kindNo es i) = says-within newPoint newArc (kindNo es i) .so e in
         let l = nameNo es i in
         let p = labelled es newPoint newArc l in
@@ -173,112 +126,96 @@ module _ (es : List Entry) (t : Numbers) (b : Tabled es t) where
         let up-to : ltb (lowestOr n p) (suc i) ≡ true = lowest-below n p (suc i) h ∙ says-any p (λ j. p j ≡ true) (λ j. says-so) (suc i) .back (i, omega arith, says-labelled es newPoint newArc l i .back (d, refl)) in
         let plain : stem l ≡ l = pointless i h d in
         let below : declarer es (stem l) < n = rw plain (omega (arith, says-lt (lowestOr n p) (suc i) .so up-to, h)) in
-        let at : recordBy (nameBy t i 0) ≡ lowestOr n p = rw (name-first i h (one-label (kindNo es i) d)) (record-told es l below) ∙ ap (declarer es) plain in
-        sym (rw at (lowest-below n p i (omega (arith, h))))))
+        let at : recordBy (nameBy (namesOf es) i 0) ≡ lowestOr n p = rw (name-first i h (declared-label (kindNo es i) d .0)) (record-told es l below) ∙ ap (declarer es) plain in
+        sym (rw at (lowest-below n p i (omega (arith, h)))))
 
     -- where it holds nowhere the drawing is clear
     clear-of : EachBelow (length es) (λ i. twice es newPoint newArc i ≡ false) → Clear es
-    clear-of none = record {
-      once = λ i j c h d e same. true≢false (sym (agree es declared-twice i .back (d, (j, c, (e, same)))) ∙ none i h);
-      pointless = pointless;
-    }
+    clear-of none = record { once = λ i j c h d e same. fails (agree es declared-twice i) (none i h) (d, (j, c, (e, same))); pointless = pointless }
 
   module _ (w : Clear es) where
-    met-alike : (i q : ℕ) → i < length es → q < kindAt (kindNo es i) .labels → wrongPlace es i q ≡ wrongName t i q
-    unfolding wrongPlace
+    met-alike : (i q : ℕ) → i < length es → q < kindAt (kindNo es i) .labels → wrongPlace es i q ≡ wrongName (kindNo es i) (namesOf es) i q
+    unfolding wrongPlace wrongName
     met-alike i q h g =
         let need = needAt (kindNo es i) q in
         let l = labelNo (entryAt es i) q in
-        rw (b .kinds i, b .names i q h g) (ap not (says-once (says-meets es need l) (says-met es w need l (known-needs (codeAt (kindNo es i) q)))))
+        rw (name-here i q h g) (ap not (says-once (says-meets es need l) (says-met es w need l (known-needs (codeAt (kindNo es i) q)))))
 
     -- 32
-    same-32 : EachBelow (length es) (λ i. wrongLabelTest es i ≡ anyWrongName t i)
+    same-32 : EachBelow (length es) (λ i. wrongLabelTest es i ≡ anyWrongName (kindNo es i) (namesOf es) i)
     unfolding wrongLabelTest anyWrongName
-    same-32 i h =
-        ap (λ (x : Bool). within firstRule lastRule (kindNo es i) && x) (any-alike (wrongPlace es i) (wrongName t i) (kindAt (kindNo es i) .labels) (λ q g. met-alike i q h g))
-        ∙ ap (λ (k : ℕ). within firstRule lastRule k && anyBelow (kindAt k .labels) (wrongName t i)) (sym (b .kinds i))
+    same-32 i h = ap (λ (x : Bool). within firstRule lastRule (kindNo es i) && x) (any-alike _ _ (kindAt (kindNo es i) .labels) (λ q g. met-alike i q h g))
 
     -- 33
-    same-33 : EachBelow (length es) (λ i. noSuchPartTest es i ≡ noPartNamed t i)
+    same-33 : EachBelow (length es) (λ i. noSuchPartTest es i ≡ noPartNamed (kindNo es i) (namesOf es) i)
     unfolding noSuchPartTest noPartNamed
-    same-33 i h =
-        rw (b .kinds i) (and-alike (within pairGuess numberGuess (kindNo es i)) _ _
-        (λ e. rw (b .kinds i) at (met-alike i 0 h (omega (arith, one-label-guess (kindNo es i) (says-within pairGuess numberGuess (kindNo es i) .so e))))))
+    same-33 i h = and-alike (within pairGuess numberGuess (kindNo es i)) _ _
+        (λ e. met-alike i 0 h (omega (arith, guess-label (kindNo es i) (says-within pairGuess numberGuess (kindNo es i) .so e))))
 
     -- behind 33 each guess names a part
     module _ (none : EachBelow (length es) (λ i. noSuchPartTest es i ≡ false)) where
       met-guess : (i : ℕ) → i < length es → Guess (kindNo es i) → bySort (needAt (kindNo es i) 0) (sortBy (nameAt es i 0)) ≡ true
-      unfolding noPartNamed
       met-guess i h g =
-          let e : noPartNamed t i ≡ false = sym (same-33 i h) ∙ none i h in
-          not-not _ (rw (b .kinds i, says-within pairGuess numberGuess (kindNo es i) .back g, b .names i 0 h (omega (arith, one-label-guess (kindNo es i) g))) at e)
+          let need = needAt (kindNo es i) 0 in
+          says-met es w need (nameNo es i) (known-needs (codeAt (kindNo es i) 0)) .back (stable (says-meets es need (nameNo es i)) (λ n. fails (agree es no-such-part i) (none i h) (g, n)))
 
       -- 34
-      same-34 : EachBelow (length es) (λ i. twice es pairGuess numberGuess i ≡ guessedBefore t i)
+      same-34 : EachBelow (length es) (λ i. twice es pairGuess numberGuess i ≡ guessedBefore (kindNo es i) (namesOf es) (guessesOf es) i)
       unfolding twice guessedBefore
-      same-34 i h =
-          rw (b .kinds i) (and-alike (within pairGuess numberGuess (kindNo es i)) _ _
-          (λ e.
+      same-34 i h = and-alike (within pairGuess numberGuess (kindNo es i)) _ _ (λ e.
           let g : Guess (kindNo es i) = says-within pairGuess numberGuess (kindNo es i) .so e in
           let l = nameNo es i in
           let name = nameFor es l in
-          let (s, suffix, k, sort) = by-sort-so (needAt (kindNo es i) 0) (sortBy name) (known-needs (codeAt (kindNo es i) 0)) (met-guess i h g) in
-          let (inside, kind, is) = name-so es (declaring s) suffix l (declares s .0) k sort in
-          let j = recordBy name in
-          let place : placeBy name ≡ j * knownParts + partNo suffix = place-of name (declaring s) (partNo suffix) (part-small suffix) sort in
-          let found : guessBy t (placeBy (nameBy t i 0)) ≡ lowestOr (length es) (labelled es pairGuess numberGuess l) =
-          rw (name-first i h (one-label-guess (kindNo es i) g), place) (
-          b .guesses (j * knownParts + partNo suffix) (omega (arith, inside, b .few, k .one))
-          ∙ guess-at es w j suffix inside (rw kind (declares s)) k
-          ∙ ap (λ (m : Label). lowestOr (length es) (labelled es pairGuess numberGuess m)) is) in
-          sym (rw found (lowest-below (length es) (labelled es pairGuess numberGuess l) i (omega (arith, h))))))
+          let (some, small) = met-tells (codeAt (kindNo es i) 0) (sortBy name) (omega arith) (met-guess i h g) in
+          let found : getD (guessesOf es) (placeBy (nameBy (namesOf es) i 0)) 0 ≡ lowestOr (length es) (labelled es pairGuess numberGuess l) =
+          rw (name-first i h (guess-label (kindNo es i) g)) (guesses-at es (placeBy name) (omega (arith, name-inside es l few, small)) ∙ guess-named es l (says-tells name .back (omega (arith, some), omega (arith, small)))) in
+          sym (rw found (lowest-below (length es) (labelled es pairGuess numberGuess l) i (omega (arith, h)))))
 
       -- the guesses with a part's label are of its sort
       module _ (i : ℕ) (h : i < length es) (s : Shape) (is : kindNo es i ≡ declaring s) (p : Part) (part : PartOf s p) where
+        of-sort : (j : ℕ) → j < length es → Guess (kindNo es j) → nameNo es j ≡ nameNo es i ++ p .suffix → kindNo es j ≡ p .guess
+        of-sort j g k e =
+            let sort : sortBy (nameAt es j 0) ≡ sortOf s (p .suffix) = says-eq _ _ .so (says-named es w s (p .suffix) (nameNo es j) (part .0) .back (i, h, (is, sym e))) in
+            part .1 .1 (kindNo es j) (omega (arith, k .1)) (k, rw sort at (met-guess j g k))
+
         guess-alike : EachBelow (length es) (λ j. labelled es pairGuess numberGuess (nameNo es i ++ p .suffix) j ≡ guessAt es (p .guess) (p .suffix) (nameNo es i) j)
         unfolding labelled guessAt
         guess-alike j g =
             says-once (says-and (says-within pairGuess numberGuess (kindNo es j)) (says-same (nameNo es j) (nameNo es i ++ p .suffix)))
-            (says-iff
-            (λ q. (rw (q .0) (part .guess-is), q .1))
-            (λ q. (of-sort j g (q .0) (q .1), q .1))
+            (says-iff (λ q. (rw (q .0) (part .1 .0), q .1)) (λ q. (of-sort j g (q .0) (q .1), q .1))
             (says-and (says-eq (kindNo es j) (p .guess)) (says-same (nameNo es j) (nameNo es i ++ p .suffix))))
-          where
-            of-sort : (j : ℕ) → j < length es → Guess (kindNo es j) → nameNo es j ≡ nameNo es i ++ p .suffix → kindNo es j ≡ p .guess
-            of-sort j g k e =
-                let sort : sortBy (nameAt es j 0) ≡ sortOf s (p .suffix) = says-eq _ _ .so (says-named es w s (p .suffix) (nameNo es j) (part .suffix-known) .back (i, h, (is, sym e))) in
-                part .sort-is (kindNo es j) k (rw sort at (met-guess j g k))
 
-        lacking-alike : not (guessed es (p .guess) (p .suffix) (nameNo es i)) ≡ leb (t .count) (guessBy t (i * knownParts + partNo (p .suffix)))
+        lacking-alike : not (guessed es (p .guess) (p .suffix) (nameNo es i)) ≡ leb (length es) (getD (guessesOf es) (i * knownParts + partNo (p .suffix)) 0)
         unfolding guessed
         lacking-alike =
             let n = length es in
             let q = labelled es pairGuess numberGuess (nameNo es i ++ p .suffix) in
-            let at : guessBy t (i * knownParts + partNo (p .suffix)) ≡ lowestOr n q =
-            b .guesses _ (omega (arith, h, b .few, part .suffix-known .one)) ∙ guess-at es w i (p .suffix) h (rw is (declares s)) (part .suffix-known) in
-            rw (at, b .count, ← any-alike q (guessAt es (p .guess) (p .suffix) (nameNo es i)) n guess-alike, ← lowest-below n q n (omega arith)) (not-below (lowestOr n q) n)
+            let at : getD (guessesOf es) (i * knownParts + partNo (p .suffix)) 0 ≡ lowestOr n q =
+            guesses-at es _ (omega (arith, h, few, part .0 .one)) ∙ guess-at es w i (p .suffix) h (rw is (declares s)) (part .0) in
+            rw (at, ← any-alike q (guessAt es (p .guess) (p .suffix) (nameNo es i)) n guess-alike, ← lowest-below n q n (omega arith)) (not-below (lowestOr n q) n)
 
-      unguessed-alike : (i : ℕ) → i < length es → (s : Shape) → kindNo es i ≡ declaring s → (ps : List Part) → Each (PartOf s) ps → anyUnguessed es (nameNo es i) ps ≡ anyLacking t i ps
-      unguessed-alike i h s is [] e = refl
-      unguessed-alike i h s is (p ∷ ps) e = rw (lacking-alike i h s is p (e .0), unguessed-alike i h s is ps (e .1))
-
-      lacks-alike : (i : ℕ) → i < length es → (s : Shape) → lacks es i s ≡ lacksBy t i s
-      lacks-alike i h s = rw (b .kinds i) (and-alike (eqb (kindNo es i) (declaring s)) _ _ (λ e. unguessed-alike i h s (says-eq _ _ .so e) (parts s) (parts-of s)))
+      lacks-alike : (i : ℕ) → i < length es → (s : Shape) → lacks es i s ≡ lacksBy (kindNo es i) (length es) (guessesOf es) i s
+      lacks-alike i h s = and-alike (eqb (kindNo es i) (declaring s)) _ _ (λ e. go (says-eq _ _ .so e) (parts s) (parts-of s))
+        where
+          go : kindNo es i ≡ declaring s → (ps : List Part) → all (partTest s) ps ≡ true → anyUnguessed es (nameNo es i) ps ≡ anyLacking (length es) (guessesOf es) i ps
+          go is [] e = refl
+          go is (p ∷ ps) e = rw (lacking-alike i h s is p (says-part s p .so (and-first _ (all (partTest s) ps) e)), go is ps (and-second (partTest s p) _ e))
 
       -- 35
-      same-35 : EachBelow (length es) (λ i. withoutGuessTest es i ≡ partLacking t i)
+      same-35 : EachBelow (length es) (λ i. withoutGuessTest es i ≡ partLacking (kindNo es i) (length es) (guessesOf es) i)
       unfolding withoutGuessTest partLacking
       same-35 i h = rw (lacks-alike i h point, lacks-alike i h circle, lacks-alike i h arc)
 
   -- ---- all of them
 
   -- behind 30 the numbers tell what the labels tell
-  pub by-numbers : EachBelow (length es) (λ j. Declaration (kindNo es j) → Pointless (nameNo es j)) → first behind30 (test es) (length es) ≡ first behind30 (testBy t) (length es)
+  pub by-numbers : EachBelow (length es) (λ j. Declaration (kindNo es j) → Pointless (nameNo es j)) → first behind30 (test es) (length es) ≡ first behind30 (testBy (ownNumbers es)) (length es)
   by-numbers plain =
       let n = length es in
-      first-alike declared-twice _ (test es) (testBy t) n (same-31 plain) (λ none.
+      let t = testBy (ownNumbers es) in
+      first-alike declared-twice _ (test es) t n (same-31 plain) (λ none.
       let w = clear-of plain none in
-      first-alike wrong-label _ (test es) (testBy t) n (same-32 w) (λ met.
-      first-alike no-such-part _ (test es) (testBy t) n (same-33 w) (λ named.
-      first-alike guessed-twice _ (test es) (testBy t) n (same-34 w named) (λ once.
-      first-alike without-guess [] (test es) (testBy t) n (same-35 w named) (λ all. none-alike (test es) (testBy t) n)))))
+      first-alike wrong-label _ (test es) t n (same-32 w) (λ met.
+      first-alike no-such-part _ (test es) t n (same-33 w) (λ named.
+      first-alike guessed-twice _ (test es) t n (same-34 w named) (λ once.
+      first-alike without-guess [] (test es) t n (same-35 w named) (λ all. none-alike (test es) t n)))))

@@ -8,5 +8,5 @@ use Rattle.drawing.proofs.judge.Reads as judge
 pub check-only : Determined 2 check-kinds.ps check-kinds.r check.Post
 check-only κs a x y e f p q = by-equation p q
 
-pub judge-only : Determined 2 judge-kinds.ps judge-kinds.r judge.Post
-judge-only κs a x y e f p q = λ i. record { checked = by-equation (p .answer) (q .answer) i; names = by-equation (p .names-are) (q .names-are) i; guesses = by-equation (p .guesses-are) (q .guesses-are) i }
+pub judge-only : Determined 4 judge-kinds.ps judge-kinds.r judge.Post
+judge-only κs a x y e f p q = by-equation p q

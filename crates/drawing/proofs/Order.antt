@@ -4,10 +4,10 @@ use mathlib.Core.Bool.{Bool, false}
 use mathlib.Core.Option.{Option, none, some}
 use mathlib.Core.List.{List, [], _∷_, map}
 use Prim.Native.Nat.{ℕ, zero, suc, _≤_, _<_}
-use native.Mathlib.Nat.{le-refl}
+use native.Mathlib.Nat.{le-refl, not-suc-le-zero}
 use native.Mathlib.Omega.{arith}
 use lib.ListN.{length, getD, List·getD-eq-default}
-use Rattle.ground.proofs.Pieces.{Each, getD-map}
+use Rattle.ground.proofs.Pieces.{Each}
 use Rattle.refusal.specs.declared.Refusal.{Refusal}
 use Rattle.refusal.specs.Refusal.{refusal}
 use Rattle.refusal.specs.First.{passed, refused, tell, first, lowest, orElse}
@@ -25,53 +25,36 @@ use Rattle.record.proofs.WellFormed.{well-formed-iff}
 use Rattle.names.specs.Labels.{drawn, kindNo}
 use Rattle.names.proofs.Drawn.{drawn-length, drawn-kind, entries-drawn}
 use Rattle.drawing.specs.declared.Checked.the-variants as checked
-use Rattle.drawing.specs.declared.Counts.{Counts}
 use Rattle.drawing.specs.Faults as faults
 use faults.{Fault, malformed, behind30, numberOf}
-use Rattle.drawing.specs.Steps.{thirtyOr, CountsTo}
+use Rattle.drawing.specs.Judged.{thirtyOr, countIn, tellsOf}
 use Rattle.drawing.specs.Check as check
 use check.{twice, wrongLabelTest, noSuchPartTest, withoutGuessTest, test, checkOf, countBelow, countWithin, answer, checkedOf}
 use Rattle.drawing.proofs.Laws.{count-kinds}
 
--- ---- the faults by their numbers
-
--- fault k behind 30
-abbrev pub faultAt : ℕ → Fault
-faultAt k = getD behind30 k malformed
-
--- the number of fault k
-pub number-at : (k : ℕ) → k < length behind30 → getD (map numberOf behind30) k 0 ≡ numberOf (faultAt k)
-number-at k h = getD-map numberOf behind30 k malformed 0 h
-
 -- ---- one pass
 
--- a place in the order that is one of its faults', and one past the last
-pick-at : (k i : ℕ) → k < length behind30 → ranked behind30 k i ≡ refused (faultAt k) i
-pick-at zero i h = refl
-pick-at (suc zero) i h = refl
-pick-at (suc (suc zero)) i h = refl
-pick-at (suc (suc (suc zero))) i h = refl
-pick-at (suc (suc (suc (suc zero)))) i h = refl
-pick-at (suc (suc (suc (suc (suc k))))) i h = absurd (omega (arith, h))
+-- a rank that is one of the order's tells its fault, with its number, and one past the last tells nothing
+at-rank : (order : List Fault) (k i : ℕ) → k < length order → (f : Fault) × (ranked order k i ≡ refused f i) × (getD (map numberOf order) k 0 ≡ numberOf f)
+at-rank [] k i h = absurd (not-suc-le-zero h)
+at-rank (f ∷ order) zero i h = (f, refl, refl)
+at-rank (f ∷ order) (suc k) i h = at-rank order k i (omega arith)
 
-pick-past : (k i : ℕ) → length behind30 ≤ k → ranked behind30 k i ≡ passed
-pick-past zero i h = absurd (omega (arith, h))
-pick-past (suc zero) i h = absurd (omega (arith, h))
-pick-past (suc (suc zero)) i h = absurd (omega (arith, h))
-pick-past (suc (suc (suc zero))) i h = absurd (omega (arith, h))
-pick-past (suc (suc (suc (suc zero)))) i h = absurd (omega (arith, h))
-pick-past (suc (suc (suc (suc (suc k))))) i h = refl
+past-rank : (order : List Fault) (k i : ℕ) → length order ≤ k → ranked order k i ≡ passed
+past-rank [] k i h = refl
+past-rank (f ∷ order) zero i h = absurd (not-suc-le-zero h)
+past-rank (f ∷ order) (suc k) i h = past-rank order k i (omega arith)
 
 -- what the pass found
 module _ (t : Fault → ℕ → Bool) (n rank place : ℕ) (e : record { rank = rank; place = place } ≡ worst (length behind30) (rankAt behind30 t) n) where
   told-by : first behind30 t n ≡ ranked behind30 rank place
   told-by = by-places t n behind30 ∙ ap (λ (w : Worst). ranked behind30 (w .rank) (w .place)) (sym e)
 
-  pub found : rank < length behind30 → first behind30 t n ≡ refused (faultAt rank) place
-  found h = told-by ∙ pick-at rank place h
+  pub found : rank < length behind30 → (f : Fault) × (first behind30 t n ≡ refused f place) × (getD (map numberOf behind30) rank 0 ≡ numberOf f)
+  found h = let (f, is, number) = at-rank behind30 rank place h in (f, told-by ∙ is, number)
 
   pub found-none : length behind30 ≤ rank → first behind30 t n ≡ passed
-  found-none h = told-by ∙ pick-past rank place h
+  found-none h = told-by ∙ past-rank behind30 rank place h
 
 -- ---- only 30 is told at the place after the last entry
 
@@ -120,24 +103,17 @@ module _ (text bs : List ℕ) (w : WellFormed text bs) where
       ∙ shorter es
       ∙ ap (first behind30 (test es)) (drawn-length text bs)
 
-  -- a fault behind 30 that is told
-  pub told-behind : (k i : ℕ) → k < length behind30 → first behind30 (test (drawn text bs)) (countOf bs) ≡ refused (faultAt k) i
-      → checkedOf (entries text bs) ≡ checked.Refused (refusal (getD (map numberOf behind30) k 0) i)
+  -- what is told of it: a fault behind 30, or none
+  pub told-behind : (f : Fault) (i : ℕ) → first behind30 (test (drawn text bs)) (countOf bs) ≡ refused f i → checkedOf (entries text bs) ≡ checked.Refused (refusal (numberOf f) i)
   unfolding checkedOf
-  told-behind k i h e = rw (entries-drawn text bs w, check-is, e, number-at k h) refl
+  told-behind f i e = rw (entries-drawn text bs w, check-is, e) refl
 
-  count-is : (low high n : ℕ) → n ≡ countBelow (λ i. decodeAt bs i .kind) low high (countOf bs) → countWithin (drawn text bs) low high ≡ n
-  count-is low high n e =
-      let es = drawn text bs in
-      count-kinds (kindNo es) (λ i. decodeAt bs i .kind) low high (length es) (drawn-kind text bs)
-      ∙ ap (countBelow (λ i. decodeAt bs i .kind) low high) (drawn-length text bs)
-      ∙ sym e
+  count-is : (low high : ℕ) → countWithin (drawn text bs) low high ≡ countIn bs low high
+  count-is low high = count-kinds (kindNo (drawn text bs)) (λ i. decodeAt bs i .kind) low high (length (drawn text bs)) (drawn-kind text bs) ∙ ap (countBelow (λ i. decodeAt bs i .kind) low high) (drawn-length text bs)
 
-  -- nothing that is told
-  pub told-none : (c : Counts) → first behind30 (test (drawn text bs)) (countOf bs) ≡ passed → CountsTo (λ i. decodeAt bs i .kind) (countOf bs) c
-      → checked.Passed (c .points) (c .circles) (c .arcs) (c .rows) ≡ checkedOf (entries text bs)
+  pub told-none : first behind30 (test (drawn text bs)) (countOf bs) ≡ passed → tellsOf text bs passed ≡ checkedOf (entries text bs)
   unfolding checkedOf
-  told-none c e counts = rw (entries-drawn text bs w, check-is, e, count-is newPoint newPoint (c .points) (counts .points), count-is newCircle newCircle (c .circles) (counts .circles), count-is newArc newArc (c .arcs) (counts .arcs), count-is firstRule lastRule (c .rows) (counts .rows)) refl
+  told-none e = rw (entries-drawn text bs w, check-is, e, count-is newPoint newPoint, count-is newCircle newCircle, count-is newArc newArc, count-is firstRule lastRule) refl
 
 -- 30, or else what is told of a well formed list
 pub told-right : (text bs : List ℕ) (other : Refusal) → (WellFormed text bs → checkedOf (entries text bs) ≡ checked.Refused other) → thirtyOr (formedOf (entries text bs)) other ≡ checkedOf (entries text bs)

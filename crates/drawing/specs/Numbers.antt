@@ -4,14 +4,15 @@ use mathlib.Core.Bool.{Bool, false, not, _&&_, _||_}
 use mathlib.Core.List.{List, [], _∷_}
 use Prim.Native.Nat.{ℕ, _+_, _*_}
 use lib.Dec.{leb, ltb, eqb}
-use lib.ListN.{getD}
+use lib.ListN.{length, getD}
 use Rattle.refusal.specs.First.{anyBelow}
 use Rattle.record.specs.Kinds.{kindAt, newPoint, newArc, firstRule, lastRule, pairGuess, numberGuess}
 use Rattle.record.specs.Record.{labelPlaces}
-use Rattle.record.specs.Entry.{Label}
-use Rattle.names.specs.Labels.{within}
+use Rattle.record.specs.Decode.{countOf, decodeAt}
+use Rattle.record.specs.Entry.{Label, Entry}
+use Rattle.names.specs.Labels.{kindNo, within}
 use Rattle.names.specs.Cut.{knownParts, partNo}
-use Rattle.names.specs.Names.{recordBy, sortBy, placeBy}
+use Rattle.names.specs.Names.{perKind, recordBy, sortBy, namesOf, placeBy, guessesOf}
 use Rattle.drawing.specs.Needs.{Shape, point, circle, arc, declaring, Part, parts, Need, needAt}
 use Rattle.drawing.specs.Faults as faults
 use faults.{Fault, malformed, declared-twice, wrong-label, no-such-part, guessed-twice, without-guess}
@@ -20,7 +21,7 @@ use faults.{Fault, malformed, declared-twice, wrong-label, no-such-part, guessed
 
 -- the sort of a shape's part
 abbrev pub sortOf : Shape → Label → ℕ
-sortOf s suffix = declaring s * 8 + partNo suffix
+sortOf s suffix = declaring s * perKind + partNo suffix
 
 -- a sort is one of those that a place needs
 abbrev pub bySort : Need → ℕ → Bool
@@ -36,58 +37,58 @@ pub record Numbers : Type 0 where
   pub names : List ℕ
   pub guesses : List ℕ
 
--- the same, put together
-abbrev pub numbers : ℕ → (ℕ → ℕ) → List ℕ → List ℕ → Numbers
-numbers count kinds names guesses = record { count = count; kinds = kinds; names = names; guesses = guesses }
+-- those of records, with whatever tables are lent
+abbrev pub lentNumbers : List ℕ → List ℕ → List ℕ → Numbers
+lentNumbers bs names guesses = record { count = countOf bs; kinds = λ j. decodeAt bs j .kind; names = names; guesses = guesses }
 
--- the name of label q of record i
-abbrev pub nameBy : Numbers → ℕ → ℕ → ℕ
-nameBy t i q = getD (t .names) (i * labelPlaces + q) 0
+-- those of a drawing, with its own tables
+abbrev pub ownNumbers : List Entry → Numbers
+ownNumbers es = record { count = length es; kinds = kindNo es; names = namesOf es; guesses = guessesOf es }
 
--- the lowest guess of the part whose place is k
-abbrev pub guessBy : Numbers → ℕ → ℕ
-guessBy t k = getD (t .guesses) k 0
+-- the name of label q of record i, by the table of names
+abbrev pub nameBy : List ℕ → ℕ → ℕ → ℕ
+nameBy names i q = getD names (i * labelPlaces + q) 0
 
--- ---- the faults at record i
+-- ---- the faults at record i, of a kind
 
 -- 31: the record that its own name tells stands before it
-unfoldable pub declaredBefore : Numbers → ℕ → Bool
-declaredBefore t i = within newPoint newArc (t .kinds i) && ltb (recordBy (nameBy t i 0)) i
+unfoldable pub declaredBefore : ℕ → List ℕ → ℕ → Bool
+declaredBefore kind names i = within newPoint newArc kind && ltb (recordBy (nameBy names i 0)) i
 
 -- the name of label q is not of a sort that its place needs
-abbrev pub wrongName : Numbers → ℕ → ℕ → Bool
-wrongName t i q = not (bySort (needAt (t .kinds i) q) (sortBy (nameBy t i q)))
+unfoldable pub wrongName : ℕ → List ℕ → ℕ → ℕ → Bool
+wrongName kind names i q = not (bySort (needAt kind q) (sortBy (nameBy names i q)))
 
 -- 32
-unfoldable pub anyWrongName : Numbers → ℕ → Bool
-anyWrongName t i = within firstRule lastRule (t .kinds i) && anyBelow (kindAt (t .kinds i) .labels) (wrongName t i)
+unfoldable pub anyWrongName : ℕ → List ℕ → ℕ → Bool
+anyWrongName kind names i = within firstRule lastRule kind && anyBelow (kindAt kind .labels) (wrongName kind names i)
 
 -- 33
-unfoldable pub noPartNamed : Numbers → ℕ → Bool
-noPartNamed t i = within pairGuess numberGuess (t .kinds i) && wrongName t i 0
+unfoldable pub noPartNamed : ℕ → List ℕ → ℕ → Bool
+noPartNamed kind names i = within pairGuess numberGuess kind && wrongName kind names i 0
 
 -- 34: the lowest guess of its part stands before it
-unfoldable pub guessedBefore : Numbers → ℕ → Bool
-guessedBefore t i = within pairGuess numberGuess (t .kinds i) && ltb (guessBy t (placeBy (nameBy t i 0))) i
+unfoldable pub guessedBefore : ℕ → List ℕ → List ℕ → ℕ → Bool
+guessedBefore kind names guesses i = within pairGuess numberGuess kind && ltb (getD guesses (placeBy (nameBy names i 0)) 0) i
 
--- one of these parts of the shape that it declares has no guess
-abbrev pub anyLacking : Numbers → ℕ → List Part → Bool
-anyLacking t i [] = false
-anyLacking t i (p ∷ ps) = leb (t .count) (guessBy t (i * knownParts + partNo (p .suffix))) || anyLacking t i ps
+-- one of these parts of the shape that it declares has no guess among n records
+abbrev pub anyLacking : ℕ → List ℕ → ℕ → List Part → Bool
+anyLacking n guesses i [] = false
+anyLacking n guesses i (p ∷ ps) = leb n (getD guesses (i * knownParts + partNo (p .suffix)) 0) || anyLacking n guesses i ps
 
 -- it declares this shape, and a part has no guess
-abbrev pub lacksBy : Numbers → ℕ → Shape → Bool
-lacksBy t i s = eqb (t .kinds i) (declaring s) && anyLacking t i (parts s)
+abbrev pub lacksBy : ℕ → ℕ → List ℕ → ℕ → Shape → Bool
+lacksBy kind n guesses i s = eqb kind (declaring s) && anyLacking n guesses i (parts s)
 
 -- 35
-unfoldable pub partLacking : Numbers → ℕ → Bool
-partLacking t i = lacksBy t i point || (lacksBy t i circle || lacksBy t i arc)
+unfoldable pub partLacking : ℕ → ℕ → List ℕ → ℕ → Bool
+partLacking kind n guesses i = lacksBy kind n guesses i point || (lacksBy kind n guesses i circle || lacksBy kind n guesses i arc)
 
 -- a fault behind 30 holds at record i
 abbrev pub testBy : Numbers → Fault → ℕ → Bool
 testBy t malformed i = false
-testBy t declared-twice i = declaredBefore t i
-testBy t wrong-label i = anyWrongName t i
-testBy t no-such-part i = noPartNamed t i
-testBy t guessed-twice i = guessedBefore t i
-testBy t without-guess i = partLacking t i
+testBy t declared-twice i = declaredBefore (t .kinds i) (t .names) i
+testBy t wrong-label i = anyWrongName (t .kinds i) (t .names) i
+testBy t no-such-part i = noPartNamed (t .kinds i) (t .names) i
+testBy t guessed-twice i = guessedBefore (t .kinds i) (t .names) (t .guesses) i
+testBy t without-guess i = partLacking (t .kinds i) (t .count) (t .guesses) i

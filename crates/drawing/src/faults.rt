@@ -1,27 +1,33 @@
 // The faults behind 30 as tests on numbers, and in one pass the first of them in their order, at the lowest record.
 ghost use mathlib.Core.Path.{_≡_};
-ghost use mathlib.Core.List.{List, []};
-ghost use Prim.Native.Nat.{ℕ, _+_, _*_, _≤_, _<_};
+ghost use Prim.Native.Nat.{_≤_, _<_};
 ghost use lib.ListN.{length, getD};
-ghost use Rattle.refusal.specs.First.{anyBelow};
 ghost use Rattle.refusal.specs.Worst.{rankAt, worse as worse-of, worst as worst-of};
-ghost use Rattle.record.specs.Kinds.{table, kindAt, Declaration, Rule, Guess};
-ghost use Rattle.record.specs.Record.{mostRecords};
-ghost use Rattle.record.specs.Decode.{countOf as records-in, decodeAt};
+ghost use Rattle.record.specs.Kinds.{table};
+ghost use Rattle.record.specs.Record.{mostRecords, labelPlaces};
+ghost use Rattle.record.specs.Decode.{countOf as records-in};
+ghost use Rattle.names.specs.Labels.{within};
 ghost use Rattle.drawing.specs.Needs.{needOf};
 ghost use Rattle.drawing.specs.Faults.{behind30};
-ghost use Rattle.drawing.specs.Numbers.{bySort, numbers, wrongName, partLacking, testBy};
+ghost use Rattle.drawing.specs.Numbers.{bySort, wrongName, declaredBefore, anyWrongName, noPartNamed, guessedBefore, partLacking, testBy, lentNumbers};
+use names::A;
+use names::B;
+use names::CENTER;
 use names::GUESSES;
 use names::NAMES;
 use names::PARTS;
+use names::RADIUS;
 use names::SORTS;
 use names::STEP;
 use names::labels::kind_at;
+use names::read::either;
+use names::read::wide;
 use record::PLACES;
 use record::SIZE;
 use record::kinds::ARC;
 use record::kinds::ASSIGNED;
 use record::kinds::CIRCLE;
+use record::kinds::FIRST_RULE;
 use record::kinds::LABELS;
 use record::kinds::LAST_RULE;
 use record::kinds::NEEDS;
@@ -30,23 +36,24 @@ use record::kinds::NEW_CIRCLE;
 use record::kinds::NEW_POINT;
 use record::kinds::NUMBER_GUESS;
 use record::kinds::NUMBER_PART;
+use record::kinds::PAIR_GUESS;
 use record::kinds::PAIR_PART;
 use record::kinds::POINT;
 use record::kinds::ROUND;
 use record::kinds::look;
 
 // The faults behind 30 by their places in the order, and how many they are.
-const DECLARED_TWICE: u8 = 0;
+const DECLARED_TWICE: usize = 0;
 
-const WRONG_LABEL: u8 = 1;
+const WRONG_LABEL: usize = 1;
 
-const NO_SUCH_PART: u8 = 2;
+const NO_SUCH_PART: usize = 2;
 
-const GUESSED_TWICE: u8 = 3;
+const GUESSED_TWICE: usize = 3;
 
-const WITHOUT_GUESS: u8 = 4;
+const WITHOUT_GUESS: usize = 4;
 
-pub(crate) const FAULTS: u8 = 5;
+pub(crate) const FAULTS: usize = 5;
 
 // The sorts that a place can need: a shape by its kind, whole or a part of it.
 const A_POINT: usize = 8;
@@ -67,15 +74,15 @@ const ARC_B: usize = 28;
 
 // The first fault of the order by its place there, and the lowest record where it holds.
 pub(crate) struct Told {
-    pub rank: u8,
+    pub rank: usize,
     pub place: usize,
 }
 
-// A number of two bytes.
-fn wide(x: u16) -> usize
-    ensures { λ r. ⌜ r ≡ x ⌝ }
+// Whether a kind is one from low to high.
+pub(crate) fn among(low: u8, high: u8, kind: u8) -> bool
+    ensures { λ r. ⌜ r ≡ within low high kind ⌝ }
 {
-    x as usize
+    (low <= kind) & (kind <= high)
 }
 
 // A guess of the table, and 0 past its end.
@@ -110,8 +117,8 @@ fn meets(code: u8, sort: usize) -> bool
 
 // Whether the name of label q of record i, of this kind, is not what its place needs.
 fn wrong_name(kinds: &[[u8; 8]; 26], names: &[u16; NAMES], kind: u8, i: usize, q: usize) -> bool
-    requires { ⌜ (now kinds ≡ table) × (i < mostRecords) × (q < 4) ⌝ }
-    ensures { λ r. ⌜ r ≡ wrongName (numbers 0 (λ j. kind) (now (names .entry)) []) i q ⌝ }
+    requires { ⌜ (now kinds ≡ table) × (i < mostRecords) × (q < labelPlaces) ⌝ }
+    ensures { λ r. ⌜ r ≡ wrongName kind (now (names .entry)) i q ⌝ }
 {
     !meets(
         look(kinds, kind, NEEDS + q),
@@ -119,12 +126,24 @@ fn wrong_name(kinds: &[[u8; 8]; 26], names: &[u16; NAMES], kind: u8, i: usize, q
     )
 }
 
-// Whether one of them is not.
-fn any_wrong(kinds: &[[u8; 8]; 26], names: &[u16; NAMES], kind: u8, i: usize) -> bool
-    requires { ⌜ (now kinds ≡ table) × (i < mostRecords) ⌝ }
-    ensures { λ r. ⌜ r ≡ anyBelow (kindAt kind .labels) (wrongName (numbers 0 (λ j. kind) (now (names .entry)) []) i) ⌝ }
+// 31.
+fn declared_before(names: &[u16; NAMES], kind: u8, i: usize) -> bool
+    requires { ⌜ i < mostRecords ⌝ }
+    ensures { λ r. ⌜ r ≡ declaredBefore kind (now (names .entry)) i ⌝ }
 {
-    let labels = look(kinds, kind, LABELS) as usize;
+    if !among(NEW_POINT, NEW_ARC, kind) {
+        return false;
+    }
+    wide(names[i * PLACES]) / STEP < i
+}
+
+// 32.
+fn any_wrong_name(kinds: &[[u8; 8]; 26], names: &[u16; NAMES], kind: u8, i: usize) -> bool
+    requires { ⌜ (now kinds ≡ table) × (i < mostRecords) ⌝ }
+    ensures { λ r. ⌜ r ≡ anyWrongName kind (now (names .entry)) i ⌝ }
+{
+    let rule = among(FIRST_RULE, LAST_RULE, kind);
+    let labels = either(rule, look(kinds, kind, LABELS) as usize, 0);
     let mut q = 0;
     while q < labels {
         if wrong_name(kinds, names, kind, i, q) {
@@ -135,99 +154,71 @@ fn any_wrong(kinds: &[[u8; 8]; 26], names: &[u16; NAMES], kind: u8, i: usize) ->
     false
 }
 
-// Whether the shape of a kind that record i of n declares has a part without a guess.
-fn lacks(guesses: &[u16; GUESSES], kind: u8, i: usize, n: usize) -> bool
+// 33.
+fn no_part_named(kinds: &[[u8; 8]; 26], names: &[u16; NAMES], kind: u8, i: usize) -> bool
+    requires { ⌜ (now kinds ≡ table) × (i < mostRecords) ⌝ }
+    ensures { λ r. ⌜ r ≡ noPartNamed kind (now (names .entry)) i ⌝ }
+{
+    if !among(PAIR_GUESS, NUMBER_GUESS, kind) {
+        return false;
+    }
+    wrong_name(kinds, names, kind, i, 0)
+}
+
+// 34.
+fn guessed_before(names: &[u16; NAMES], guesses: &[u16; GUESSES], kind: u8, i: usize) -> bool
     requires { ⌜ i < mostRecords ⌝ }
-    ensures { λ r. ⌜ r ≡ partLacking (numbers n (λ j. kind) [] (now (guesses .entry))) i ⌝ }
+    ensures { λ r. ⌜ r ≡ guessedBefore kind (now (names .entry)) (now (guesses .entry)) i ⌝ }
+{
+    if !among(PAIR_GUESS, NUMBER_GUESS, kind) {
+        return false;
+    }
+    let name = wide(names[i * PLACES]);
+    guess_in(guesses, name / STEP * PARTS + name % SORTS) < i
+}
+
+// 35, of record i of n.
+fn part_lacking(guesses: &[u16; GUESSES], kind: u8, i: usize, n: usize) -> bool
+    requires { ⌜ i < mostRecords ⌝ }
+    ensures { λ r. ⌜ r ≡ partLacking kind n (now (guesses .entry)) i ⌝ }
 {
     let k = i * PARTS;
     match kind {
         NEW_POINT => n <= guess_in(guesses, k),
-        NEW_CIRCLE => (n <= guess_in(guesses, k + 1)) | (n <= guess_in(guesses, k + 2)),
+        NEW_CIRCLE => (n <= guess_in(guesses, k + CENTER)) | (n <= guess_in(guesses, k + RADIUS)),
         NEW_ARC => {
-            (n <= guess_in(guesses, k + 3))
-                | ((n <= guess_in(guesses, k + 4)) | (n <= guess_in(guesses, k + 1)))
+            (n <= guess_in(guesses, k + A))
+                | ((n <= guess_in(guesses, k + B)) | (n <= guess_in(guesses, k + CENTER)))
         }
         _ => false,
     }
 }
 
-// The first fault of a declaration, record i of n.
-fn declared_rank(names: &[u16; NAMES], guesses: &[u16; GUESSES], kind: u8, i: usize, n: usize) -> u8
-    requires { ⌜ Declaration kind × (i < mostRecords) ⌝ }
-    ensures { λ r. ⌜ r ≡ rankAt behind30 (testBy (numbers n (λ j. kind) (now (names .entry)) (now (guesses .entry)))) i ⌝ }
-{
-    if wide(names[i * PLACES]) / STEP < i {
-        return DECLARED_TWICE;
-    }
-    if lacks(guesses, kind, i, n) {
-        return WITHOUT_GUESS;
-    }
-    FAULTS
-}
-
-// The first fault of a rule, record i of n.
-fn rule_rank(kinds: &[[u8; 8]; 26], names: &[u16; NAMES], kind: u8, i: usize) -> u8
-    requires { ⌜ (now kinds ≡ table) × Rule kind × (i < mostRecords) ⌝ }
-    ensures { λ r. ⌜ ((n : ℕ) → (guesses : List ℕ) → r ≡ rankAt behind30 (testBy (numbers n (λ j. kind) (now (names .entry)) guesses)) i) ⌝ }
-{
-    if any_wrong(kinds, names, kind, i) {
-        return WRONG_LABEL;
-    }
-    FAULTS
-}
-
-// The first fault of a guess, record i.
-fn guess_rank(
+// The first fault of record i of n, by its place in the order.
+fn rank_of(
     kinds: &[[u8; 8]; 26],
     names: &[u16; NAMES],
     guesses: &[u16; GUESSES],
     kind: u8,
     i: usize,
-) -> u8
-    requires { ⌜ (now kinds ≡ table) × Guess kind × (i < mostRecords) ⌝ }
-    ensures { λ r. ⌜ ((n : ℕ) → r ≡ rankAt behind30 (testBy (numbers n (λ j. kind) (now (names .entry)) (now (guesses .entry)))) i) ⌝ }
-{
-    if wrong_name(kinds, names, kind, i, 0) {
-        return NO_SUCH_PART;
-    }
-    let name = wide(names[i * PLACES]);
-    if guess_in(guesses, name / STEP * PARTS + name % SORTS) < i {
-        return GUESSED_TWICE;
-    }
-    FAULTS
-}
-
-// The first fault of record i of n.
-fn rank_at(
-    kinds: &[[u8; 8]; 26],
-    records: &[u8],
-    names: &[u16; NAMES],
-    guesses: &[u16; GUESSES],
-    i: usize,
     n: usize,
-) -> u8
+) -> usize
     requires { ⌜ (now kinds ≡ table) × (i < mostRecords) ⌝ }
-    ensures { λ r. ⌜ r ≡ rankAt behind30 (testBy (numbers n (λ j. decodeAt (now (records .entry)) j .kind) (now (names .entry)) (now (guesses .entry)))) i ⌝ }
+    ensures { λ r. ⌜ r ≡ rankAt behind30 (testBy (record { count = n; kinds = λ j. kind; names = now (names .entry); guesses = now (guesses .entry) })) i ⌝ }
 {
-    let kind = kind_at(records, i);
-    if kind < NEW_POINT {
-        return FAULTS;
-    }
-    if kind <= NEW_ARC {
-        return declared_rank(names, guesses, kind, i, n);
-    }
-    if kind <= LAST_RULE {
-        return rule_rank(kinds, names, kind, i);
-    }
-    if kind <= NUMBER_GUESS {
-        return guess_rank(kinds, names, guesses, kind, i);
-    }
-    FAULTS
+    let lacking = either(part_lacking(guesses, kind, i, n), WITHOUT_GUESS, FAULTS);
+    let guessed = either(
+        guessed_before(names, guesses, kind, i),
+        GUESSED_TWICE,
+        lacking,
+    );
+    let named = either(no_part_named(kinds, names, kind, i), NO_SUCH_PART, guessed);
+    let met = either(any_wrong_name(kinds, names, kind, i), WRONG_LABEL, named);
+    either(declared_before(names, kind, i), DECLARED_TWICE, met)
 }
 
 // The worse of a record's first fault and the worst so far.
-fn worse(rank: u8, i: usize, w: Told) -> Told
+fn worse(rank: usize, i: usize, w: Told) -> Told
     ensures { λ r. ⌜ record { rank = r .rank; place = r .place } ≡ worse-of rank i (record { rank = w .rank; place = w .place }) ⌝ }
 {
     if rank < w.rank {
@@ -244,7 +235,7 @@ pub(crate) fn worst(
     guesses: &[u16; GUESSES],
 ) -> Told
     requires { ⌜ (now kinds ≡ table) × (records-in (now records) ≤ mostRecords) ⌝ }
-    ensures { λ r. ⌜ record { rank = r .rank; place = r .place } ≡ worst-of (length behind30) (rankAt behind30 (testBy (numbers (records-in (now (records .entry))) (λ j. decodeAt (now (records .entry)) j .kind) (now (names .entry)) (now (guesses .entry))))) (records-in (now (records .entry))) ⌝ }
+    ensures { λ r. ⌜ record { rank = r .rank; place = r .place } ≡ worst-of (length behind30) (rankAt behind30 (testBy (lentNumbers (now (records .entry)) (now (names .entry)) (now (guesses .entry))))) (records-in (now (records .entry))) ⌝ }
 {
     let n = records.len() / SIZE;
     let mut w = Told {
@@ -253,7 +244,8 @@ pub(crate) fn worst(
     };
     let mut i = 0;
     while i < n {
-        w = worse(rank_at(kinds, records, names, guesses, i, n), i, w);
+        let rank = rank_of(kinds, names, guesses, kind_at(records, i), i, n);
+        w = worse(rank, i, w);
         i += 1;
     }
     w

@@ -2,20 +2,23 @@
 mod faults;
 
 ghost use mathlib.Core.Path.{_≡_};
-ghost use Prim.Native.Nat.{_≤_, _<_};
+ghost use mathlib.Core.Bool.{cond};
+ghost use Prim.Native.Nat.{_≤_};
 ghost use Rattle.refusal.specs.Refusal.{refusal};
 ghost use Rattle.record.specs.Record.{mostRecords};
-ghost use Rattle.record.specs.Decode.{countOf as records-in, decodeAt};
+ghost use Rattle.record.specs.Decode.{countOf as records-in};
 ghost use Rattle.record.specs.Formed.{entries, formedOf};
+ghost use Rattle.names.specs.Labels.{within};
 ghost use Rattle.drawing.specs.Check.{checkedOf};
-ghost use Rattle.drawing.specs.Judged.{Judges};
-ghost use Rattle.drawing.specs.Steps.{thirtyOr, OneMore, CountsTo, FewCounts, ChecksInto};
+ghost use Rattle.drawing.specs.Judged.{thirtyOr, countIn, judgedOf};
 use faults::FAULTS;
+use faults::among;
 use faults::worst;
 use names::GUESSES;
 use names::NAMES;
 use names::labels::kind_at;
 use names::resolve;
+use record::MOST;
 use record::SIZE;
 use record::formed::Formed;
 use record::formed::MALFORMED;
@@ -42,77 +45,26 @@ pub enum Checked {
     Refused(Refusal),
 }
 
-// What is told of a drawing, with the names and the guesses of one that passes; of any other the tables have zeros.
-pub struct Judged {
-    pub checked: Checked,
-    pub names: [u16; NAMES],
-    pub guesses: [u16; GUESSES],
-}
-
-// How many points, circles, arcs and rows there are.
-struct Counts {
-    points: usize,
-    circles: usize,
-    arcs: usize,
-    rows: usize,
-}
-
-// One record more.
-fn counted(c: Counts, kind: u8) -> Counts
-    requires { ⌜ FewCounts mostRecords c ⌝ }
-    ensures { λ r. ⌜ OneMore c kind r ⌝ }
+// 1 for a kind from low to high, and 0 for any other.
+fn one_if(low: u8, high: u8, kind: u8) -> u16
+    ensures { λ r. ⌜ r ≡ cond (within low high kind) 1 0 ⌝ }
 {
-    let points = c.points;
-    let circles = c.circles;
-    let arcs = c.arcs;
-    let rows = c.rows;
-    match kind {
-        NEW_POINT => Counts {
-            points: points + 1,
-            circles,
-            arcs,
-            rows,
-        },
-        NEW_CIRCLE => Counts {
-            points,
-            circles: circles + 1,
-            arcs,
-            rows,
-        },
-        NEW_ARC => Counts {
-            points,
-            circles,
-            arcs: arcs + 1,
-            rows,
-        },
-        FIRST_RULE..=LAST_RULE => Counts {
-            points,
-            circles,
-            arcs,
-            rows: rows + 1,
-        },
-        _ => c,
-    }
+    if among(low, high, kind) { 1 } else { 0 }
 }
 
-// How many of each the records have.
-fn count(records: &[u8]) -> Counts
+// How many records are of a kind from low to high.
+fn count(records: &[u8], low: u8, high: u8) -> usize
     requires { ⌜ records-in (now records) ≤ mostRecords ⌝ }
-    ensures { λ r. ⌜ CountsTo (λ i. decodeAt (now (records .entry)) i .kind) (records-in (now (records .entry))) r ⌝ }
+    ensures { λ r. ⌜ r ≡ countIn (now (records .entry)) low high ⌝ }
 {
     let n = records.len() / SIZE;
-    let mut c = Counts {
-        points: 0,
-        circles: 0,
-        arcs: 0,
-        rows: 0,
-    };
+    let mut c = 0u16;
     let mut i = 0;
     while i < n {
-        c = counted(c, kind_at(records, i));
+        c += one_if(low, high, kind_at(records, i));
         i += 1;
     }
-    c
+    c as usize
 }
 
 // 30 of a list that is not well formed, and else another refusal.
@@ -125,54 +77,31 @@ fn behind_30(text: &[u8], records: &[u8], number: u8, place: usize) -> Checked
     Checked::Refused(Refusal { number, place })
 }
 
-// The check of a drawing, which puts the names and the guesses of one that passes into two tables.
-fn check_into(
+// The check by whatever names and guesses are lent: 30 where they were not resolved, and else the first fault that they show.
+pub fn judge(
     text: &[u8],
     records: &[u8],
-    names: &mut [u16; NAMES],
-    guesses: &mut [u16; GUESSES],
+    resolved: bool,
+    names: &[u16; NAMES],
+    guesses: &[u16; GUESSES],
 ) -> Checked
-    ensures { λ r. ⌜ ChecksInto (now (text .entry)) (now (records .entry)) r (now (names .exit)) (now (guesses .exit)) ⌝ }
+    ensures { λ r. ⌜ r ≡ judgedOf (now (text .entry)) (now (records .entry)) resolved (now (names .entry)) (now (guesses .entry)) ⌝ }
 {
-    if !resolve(text, records, names, guesses) {
+    if !resolved | (MOST < records.len() / SIZE) {
         return behind_30(text, records, MALFORMED, 0);
     }
     let kinds = KINDS;
     let w = worst(&kinds, records, names, guesses);
     if w.rank < FAULTS {
         let order = ORDER;
-        let rank = w.rank as usize;
+        let rank = w.rank;
         return behind_30(text, records, order[rank], w.place);
     }
-    let c = count(records);
     Checked::Passed {
-        points: c.points,
-        circles: c.circles,
-        arcs: c.arcs,
-        rows: c.rows,
-    }
-}
-
-// The check of a drawing, with the names and the guesses of one that passes.
-pub fn judge(text: &[u8], records: &[u8]) -> Judged
-    ensures { λ r. ⌜ Judges (entries (now (text .entry)) (now (records .entry))) r ⌝ }
-{
-    let mut names = [0u16; NAMES];
-    let mut guesses = [0u16; GUESSES];
-    let checked = check_into(text, records, &mut names, &mut guesses);
-    if let Checked::Refused(r) = checked {
-        let no_names = [0u16; NAMES];
-        let no_guesses = [0u16; GUESSES];
-        return Judged {
-            checked: Checked::Refused(r),
-            names: no_names,
-            guesses: no_guesses,
-        };
-    }
-    Judged {
-        checked,
-        names,
-        guesses,
+        points: count(records, NEW_POINT, NEW_POINT),
+        circles: count(records, NEW_CIRCLE, NEW_CIRCLE),
+        arcs: count(records, NEW_ARC, NEW_ARC),
+        rows: count(records, FIRST_RULE, LAST_RULE),
     }
 }
 
@@ -182,5 +111,6 @@ pub fn check(text: &[u8], records: &[u8]) -> Checked
 {
     let mut names = [0u16; NAMES];
     let mut guesses = [0u16; GUESSES];
-    check_into(text, records, &mut names, &mut guesses)
+    let resolved = resolve(text, records, &mut names, &mut guesses);
+    judge(text, records, resolved, &names, &guesses)
 }

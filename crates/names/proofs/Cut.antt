@@ -10,9 +10,11 @@ use lib.ListN.{length, take, drop, getD, length-append, drop-of-length-le}
 use lib.Seq.{drop-cons, take-append-seam, drop-append-seam}
 use borrow.Author.Tests.{eq-eqb, ne-eqb}
 use Rattle.ground.specs.Words.{bytes}
+use Rattle.ground.proofs.Lists.{either-le}
+use Rattle.text.proofs.Laws.{cond-of}
 use Rattle.record.specs.Entry.{Label}
 use Rattle.names.specs.Labels.{same}
-use Rattle.names.specs.Cut.{dot, stem, behind, Pointless, partNo, KnownPart}
+use Rattle.names.specs.Cut.{dot, stem, behind, Pointless, partNo}
 use Rattle.names.specs.Chains.{chains, hashFrom, hashOf}
 use Rattle.names.proofs.Laws.{says-same}
 use native.Mathlib.Nat.{zero-lt-suc}
@@ -136,39 +138,32 @@ plain-pointless l p = pointless-by l (no-point l p)
 pub part-none : (t : Label) → length t ≡ 0 → same t [] ≡ true
 part-none t e = says-same t [] .back (drop-of-length-le t {i = 0} (omega arith))
 
-small-step : (a b c d e : Bool) → cond a 0 (cond b 1 (cond c 2 (cond d 3 (cond e 4 5)))) ≤ 5
-small-step true b c d e = omega arith
-small-step false true c d e = omega arith
-small-step false false true d e = omega arith
-small-step false false false true e = omega arith
-small-step false false false false true = omega arith
-small-step false false false false false = omega arith
-
 pub part-small : (t : Label) → partNo t ≤ 5
-part-small t = small-step (same t []) (same t (bytes ".center")) (same t (bytes ".radius")) (same t (bytes ".a")) (same t (bytes ".b"))
+part-small t =
+    cond-of Small (same t []) 0 _ (λ _. omega arith) (λ _. cond-of Small (same t (bytes ".center")) 1 _ (λ _. omega arith) (λ _.
+    cond-of Small (same t (bytes ".radius")) 2 _ (λ _. omega arith) (λ _. cond-of Small (same t (bytes ".a")) 3 _ (λ _. omega arith) (λ _.
+    either-le (same t (bytes ".b")) 4 5 5 (omega arith) (omega arith)))))
+  where
+    Small : ℕ → Type 0
+    Small n = n ≤ 5
 
 -- the suffix of a part's number
-suffixNo : ℕ → Label
+unfoldable pub suffixNo : ℕ → Label
 suffixNo zero = []
 suffixNo (suc zero) = bytes ".center"
 suffixNo (suc (suc zero)) = bytes ".radius"
 suffixNo (suc (suc (suc zero))) = bytes ".a"
 suffixNo (suc (suc (suc (suc n)))) = bytes ".b"
 
-module _ (t : Label) where
-  spelled-step : (a b c d e : Bool) → (a ≡ true → t ≡ []) → (b ≡ true → t ≡ bytes ".center") → (c ≡ true → t ≡ bytes ".radius") → (d ≡ true → t ≡ bytes ".a") → (e ≡ true → t ≡ bytes ".b")
-      → cond a 0 (cond b 1 (cond c 2 (cond d 3 (cond e 4 5)))) < 5 → t ≡ suffixNo (cond a 0 (cond b 1 (cond c 2 (cond d 3 (cond e 4 5)))))
-  unfolding suffixNo
-  spelled-step true b c d e fa fb fc fd fe h = fa refl
-  spelled-step false true c d e fa fb fc fd fe h = fb refl
-  spelled-step false false true d e fa fb fc fd fe h = fc refl
-  spelled-step false false false true e fa fb fc fd fe h = fd refl
-  spelled-step false false false false true fa fb fc fd fe h = fe refl
-  spelled-step false false false false false fa fb fc fd fe h = absurd (omega (arith, h))
-
-  spelled : partNo t < 5 → t ≡ suffixNo (partNo t)
-  spelled = spelled-step (same t []) (same t (bytes ".center")) (same t (bytes ".radius")) (same t (bytes ".a")) (same t (bytes ".b")) (says-same _ _ .so) (says-same _ _ .so) (says-same _ _ .so) (says-same _ _ .so) (says-same _ _ .so)
-
--- a part with the number of a known suffix is that suffix
-pub same-part : (t suffix : Label) → KnownPart suffix → partNo t ≡ partNo suffix → t ≡ suffix
-same-part t suffix k e = spelled t (rw e (k .one)) ∙ ap suffixNo e ∙ sym (spelled suffix (k .one))
+-- a part with the number of a known one is that part
+pub suffix-of : (t : Label) → partNo t < 5 → t ≡ suffixNo (partNo t)
+unfolding suffixNo
+suffix-of t =
+    cond-of Spells (same t []) 0 _ (λ e h. says-same _ _ .so e) (λ _.
+    cond-of Spells (same t (bytes ".center")) 1 _ (λ e h. says-same _ _ .so e) (λ _.
+    cond-of Spells (same t (bytes ".radius")) 2 _ (λ e h. says-same _ _ .so e) (λ _.
+    cond-of Spells (same t (bytes ".a")) 3 _ (λ e h. says-same _ _ .so e) (λ _.
+    cond-of Spells (same t (bytes ".b")) 4 5 (λ e h. says-same _ _ .so e) (λ _ h. absurd (omega (arith, h)))))))
+  where
+    Spells : ℕ → Type 0
+    Spells n = n < 5 → t ≡ suffixNo n

@@ -1,6 +1,6 @@
 -- The entries of records, place by place, by what the code reads; and where 30 is told nowhere they are the entries of the list. Assumes nothing.
 use mathlib.Core.Path.{_≡_, refl, sym, ap, _∙_}
-use mathlib.Core.Bool.{Bool, true, false, _||_}
+use mathlib.Core.Bool.{true}
 use mathlib.Core.List.{List, []}
 use Prim.Native.Nat.{ℕ, zero, suc, _+_, _*_, _≤_, _<_}
 use native.Mathlib.Omega.{arith}
@@ -8,18 +8,17 @@ use native.Mathlib.Nat.{add-assoc}
 use native.Mathlib.Decide.{decLt}
 use lib.ListN.{length, getD, drop, List·getD-eq-default}
 use lib.Seq.{getD-take, getD-drop, ext-getD}
-use lib.Dec.{leb, ltb}
-use borrow.Author.Tests.{lt-ltb, le-ltb, ltb-true, leb-true, lt-leb, ne-eqb}
-use Rattle.refusal.proofs.Says.{says-so, says-all}
+use borrow.Author.Tests.{lt-ltb, le-ltb, lt-leb, ne-eqb}
 use Rattle.bytes.specs.Little.{byte, u16}
 use Rattle.record.specs.Record.{recordBytes, labelPlaces, firstGuess}
 use Rattle.record.specs.Decode.{decode, countOf, recordOf, decodeAt, viewAt, placeIn, hasPlace}
 use Rattle.record.specs.Entry.{Entry, noEntry, entryAt, labelNo, part, named, entryOf, noView, viewOf}
-use Rattle.record.specs.Kinds.{kinds, kindAt, noKind}
+use Rattle.record.specs.Kinds.{kindAt}
 use Rattle.record.specs.Sound.{Known}
 use Rattle.record.specs.Laid.{LaidRecord}
 use Rattle.record.specs.Formed.{WellFormed, entries}
 use Rattle.ground.proofs.UpTo.{length-up-to, getD-up-to}
+use Rattle.record.proofs.Table.{some-label, few-labels, guess-labels}
 use Rattle.record.proofs.Entries.{entry-good, entry-at, whole-length}
 use Rattle.names.specs.Labels.{drawn, kindNo}
 
@@ -50,37 +49,12 @@ module _ (bs : List ℕ) (i : ℕ) where
 
 -- ---- a label of a record that is laid right
 
-or-second : (a b : Bool) → (a || b) ≡ true → a ≡ false → b ≡ true
-or-second a b e f = rw f at e
-
--- a guess has one label at most, by a computed test; and what is no kind has none
-one-label : (kind : ℕ) → firstGuess ≤ kind → kindAt kind .labels ≤ 1
-one-label kind g =
-    elim (decLt kind (length kinds)) [
-      | yes h ↦ leb-true _ _ (or-second (ltb kind firstGuess) _ (says-all guessLabels (λ k. guessLabels k ≡ true) (λ k. says-so) 26 .so refl kind h) (le-ltb kind firstGuess g))
-      | no f ↦ rw (List·getD-eq-default kinds noKind {n = kind} (omega (arith, f))) (omega arith)
-    ]
-  where
-    guessLabels : ℕ → Bool
-    guessLabels k = ltb k firstGuess || leb (kindAt k .labels) 1
-
--- a known kind has a label, by another
-some-label : (kind : ℕ) → Known kind → 0 < kindAt kind .labels
-some-label kind (some, few) =
-    ltb-true _ _ (or-second (leb kind 0) _ (says-all hasLabel (λ k. hasLabel k ≡ true) (λ k. says-so) 26 .so refl kind few) (lt-leb kind 0 some))
-  where
-    hasLabel : ℕ → Bool
-    hasLabel k = leb k 0 || ltb 0 (kindAt k .labels)
-
 module _ (text bs : List ℕ) (i : ℕ) (h : i < countOf bs) (laid : LaidRecord text (recordOf bs i)) where
   pub known-at : Known (decodeAt bs i .kind)
   known-at = rw (decode-here bs i h) (laid .known)
 
   pub labels-some : 0 < kindAt (decodeAt bs i .kind) .labels
   labels-some = some-label (decodeAt bs i .kind) known-at
-
-  pub labels-few : kindAt (decodeAt bs i .kind) .labels ≤ labelPlaces
-  labels-few = rw (decode-here bs i h, ← laid .count) (laid .framed .few)
 
 module _ (text bs : List ℕ) (i : ℕ) (h : i < countOf bs) (laid : LaidRecord text (recordOf bs i)) (q : ℕ) (few : q < kindAt (decodeAt bs i .kind) .labels) where
   -- so many labels are there
@@ -92,7 +66,7 @@ module _ (text bs : List ℕ) (i : ℕ) (h : i < countOf bs) (laid : LaidRecord 
   unfolding decode
   view-here =
       let b = recordOf bs i in
-      let four : q < labelPlaces = omega (arith, few, labels-few text bs i h laid) in
+      let four : q < labelPlaces = omega (arith, few, few-labels (decodeAt bs i .kind)) in
       getD-up-to labelPlaces (placeIn b) q noView four ∙ rw (has-place (byte b 1) q (laid .count) label-there) (view-is bs i (4 + q * 4) (i * recordBytes + 4 + q * 4) (omega arith) (omega arith))
     where
       -- a kind with more than one label is no guess's
@@ -101,7 +75,7 @@ module _ (text bs : List ℕ) (i : ℕ) (h : i < countOf bs) (laid : LaidRecord 
       has-place kind (suc q) e g =
           elim (decLt kind firstGuess) [
             | yes l ↦ rw (lt-leb firstGuess kind l, ne-eqb (suc q) 0 (λ z. omega (arith, z))) refl
-            | no f ↦ absurd (omega (arith, one-label kind (omega (arith, f)), e, g))
+            | no f ↦ absurd (omega (arith, guess-labels kind (omega (arith, f)), e, g))
           ]
 
   pub view-inside : u16 bs (i * recordBytes + 4 + q * 4) + u16 bs (i * recordBytes + 4 + q * 4 + 2) ≤ length text

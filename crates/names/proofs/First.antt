@@ -8,7 +8,7 @@ use native.Mathlib.Nat.{lt-irrefl}
 use native.Mathlib.Numerals.{add-one}
 use native.Mathlib.Omega.{arith}
 use native.Mathlib.Decide.{decLt, ℕ-discrete}
-use lib.ListN.{length, getD, set}
+use lib.ListN.{length, getD, set, length-set}
 use lib.Seq.{getD-set-same, getD-set-other}
 use lib.Dec.{ltb}
 use borrow.Author.Tests.{le-ltb}
@@ -16,7 +16,8 @@ use Rattle.refusal.specs.First.{SomeBelow, EachBelow, anyBelow, lowest}
 use Rattle.refusal.proofs.Says.{Says, refuted, says-once, says-so, says-iff, says-lt, says-any}
 use Rattle.refusal.proofs.Search.{Searched, at, nowhere, searched, stops-here, goes-through}
 use Rattle.names.specs.Labels.{placeOr, lowestOr}
-use Rattle.names.specs.Chains.{firstAmong, firstFrom}
+use Rattle.names.specs.Chains.{firstAmong, firstFrom, FirstsFrom}
+use Rattle.names.specs.Steps.{FilledWith}
 use Rattle.refusal.proofs.Alike.{lowest-alike}
 
 -- ---- a list at a place, after a store
@@ -135,3 +136,21 @@ from-plain p n =
       | yes h ↦ lowest-here n p (firstFrom p n 0) h (f .passes h) (λ j b. f .none-before j (omega arith) b)
       | no g ↦ (let z : firstFrom p n 0 ≡ n = omega (arith, f .up-to, g) in z ∙ lowest-nowhere n p (λ j b. f .none-before j (omega arith) (omega (arith, b, g))))
     ]
+
+-- ---- a table of firsts, filled from the last number to the first
+
+module _ (belongs : ℕ → ℕ → Bool) (places n : ℕ) (table : List ℕ) where
+  pub firsts-none : (m : ℕ) → n ≤ m → FilledWith places m table → FirstsFrom belongs places n m table
+  firsts-none m h f = record { long = f .long; each = λ k b. f .each k b ∙ sym (from-end (belongs k) n m h) }
+
+  module _ (j : ℕ) (lt : j < n) (c : FirstsFrom belongs places n (j + 1) table) where
+    -- a number that belongs nowhere
+    pub firsts-out : ((k : ℕ) → belongs k j ≡ false) → FirstsFrom belongs places n j table
+    firsts-out f = record { long = c .long; each = λ k b. c .each k b ∙ sym (from-more (belongs k) n j lt (f k)) }
+
+    -- and one that belongs to one place comes before those that stood there
+    pub firsts-in : (place : ℕ) → place < places → belongs place j ≡ true → ((k : ℕ) → (k ≡ place → ⊥) → belongs k j ≡ false) → FirstsFrom belongs places n j (set table place j)
+    firsts-in place b e f = record {
+      long = length-set table place j ∙ c .long;
+      each = λ k kb. put table place j k (omega (arith, c .long)) _ (λ q. sym (from-stop (belongs k) n j lt (rw q e))) (λ q. c .each k kb ∙ sym (from-more (belongs k) n j lt (f k q)));
+    }

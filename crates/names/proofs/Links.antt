@@ -12,9 +12,8 @@ use Rattle.record.specs.Kinds.{newPoint, newArc}
 use Rattle.record.specs.Entry.{Label, Entry}
 use Rattle.names.specs.Labels.{kindNo, nameNo, same, within, labelled, lowestOr}
 use Rattle.names.specs.Chains.{chains, hashOf, hashed, firstFrom, NextsFrom, ChainedFrom, Chained}
-use Rattle.names.specs.Steps.{FilledWith}
 use Rattle.names.proofs.Laws.{says-same}
-use Rattle.names.proofs.First.{FirstIs, put, skip, from-more, from-stop, from-end, from-is, from-plain}
+use Rattle.names.proofs.First.{FirstIs, put, skip, from-more, from-stop, from-end, from-is, from-plain, firsts-out, firsts-in}
 
 -- the test of a hash
 pub says-hashed : (es : List Entry) (h i : ℕ) → Says (hashed es h i) ((within newPoint newArc (kindNo es i) ≡ true) × (hashOf (nameNo es i) ≡ h))
@@ -23,37 +22,23 @@ says-hashed es h i = says-and says-so (says-eq _ _)
 
 -- ---- one record more
 
-module _ (es : List Entry) (heads nexts : List ℕ) where
-  -- none yet: each chain is empty
-  pub links-none : (n : ℕ) → n ≡ length es → FilledWith chains n heads → ChainedFrom es n heads nexts
-  links-none n z f =
-      record {
-        head = λ h b. f .each h b ∙ sym (from-end (hashed es h) (length es) n (omega arith));
-        next = λ i a b. absurd (omega (arith, a, b));
-      }
+module _ (es : List Entry) (heads nexts : List ℕ) (j : ℕ) (lt : j < length es) (c : ChainedFrom es (j + 1) heads nexts) where
+  -- a record that declares nothing is in no chain
+  pub links-out : within newPoint newArc (kindNo es j) ≡ false → ChainedFrom es j heads nexts
+  links-out d = record {
+    head = firsts-out (hashed es) chains (length es) heads j lt (c .head) (λ h. refuted (says-hashed es h j) (λ g. true≢false (sym (g .0) ∙ d)));
+    next = λ i a b e. elim (decLt j i) [
+      | yes l ↦ c .next i (omega (arith, l)) b e
+      | no f ↦ (let z : i ≡ j = omega (arith, a, f) in absurd (true≢false (sym e ∙ rw z d)))
+    ];
+  }
 
-  module _ (j : ℕ) (lt : j < length es) (c : ChainedFrom es (j + 1) heads nexts) where
-    -- a record that declares nothing is in no chain
-    pub links-out : within newPoint newArc (kindNo es j) ≡ false → ChainedFrom es j heads nexts
-    links-out d =
-        record {
-          head = λ h b. c .head h b ∙ sym (from-more (hashed es h) (length es) j lt (refuted (says-hashed es h j) (λ g. true≢false (sym (g .0) ∙ d))));
-          next = λ i a b e. elim (decLt j i) [
-            | yes l ↦ c .next i (omega (arith, l)) b e
-            | no f ↦ (let z : i ≡ j = omega (arith, a, f) in absurd (true≢false (sym e ∙ rw z d)))
-          ];
-        }
-
-    -- a declaration comes to the front of its chain
-    pub links-in : (h : ℕ) → within newPoint newArc (kindNo es j) ≡ true → h ≡ hashOf (nameNo es j) → h < chains → h < length heads → j < length nexts
-        → ChainedFrom es j (set heads h j) (set nexts j (getD heads h 0))
-    links-in h d e hb there inside =
-        record {
-          head = λ k kb. put heads h j k there _
-              (λ q. sym (from-stop (hashed es k) (length es) j lt (says-hashed es k j .back (d, sym e ∙ sym q))))
-              (λ q. c .head k kb ∙ sym (from-more (hashed es k) (length es) j lt (refuted (says-hashed es k j) (λ g. q (sym (e ∙ g .1))))));
-          next = λ i a b w. put nexts j (getD heads h 0) i inside _ (λ q. rw (q, ← e) (c .head h hb)) (λ q. c .next i (omega (arith, a, q)) b w);
-        }
+  -- a declaration comes to the front of its chain
+  pub links-in : (h : ℕ) → within newPoint newArc (kindNo es j) ≡ true → h ≡ hashOf (nameNo es j) → h < chains → j < length nexts → ChainedFrom es j (set heads h j) (set nexts j (getD heads h 0))
+  links-in h d e hb inside = record {
+    head = firsts-in (hashed es) chains (length es) heads j lt (c .head) h hb (says-hashed es h j .back (d, sym e)) (λ k q. refuted (says-hashed es k j) (λ g. q (sym (e ∙ g .1))));
+    next = λ i a b w. put nexts j (getD heads h 0) i inside _ (λ q. rw (q, ← e) (c .head .each h hb)) (λ q. c .next i (omega (arith, a, q)) b w);
+  }
 
 -- ---- a walk
 
@@ -110,7 +95,7 @@ module _ (es : List Entry) (l : Label) where
   -- from the head of the label's chain on it finds what the plain search finds
   module _ (heads nexts : List ℕ) (c : Chained es heads nexts) (start : ℕ) (e : start ≡ getD heads (hashOf l) 0) (b : hashOf l < chains) where
     start-is : start ≡ firstFrom (hashed es (hashOf l)) (length es) 0
-    start-is = e ∙ c .head (hashOf l) b
+    start-is = e ∙ c .head .each (hashOf l) b
 
     pub start-first : FirstIs (hashed es (hashOf l)) (length es) 0 start
     start-first = rw start-is (from-is (hashed es (hashOf l)) (length es) 0 (omega arith))

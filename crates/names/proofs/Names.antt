@@ -1,24 +1,23 @@
 -- Where no label is declared twice and no declared label has a point, a label's name says what the label says: which record declares its
 -- shape, and which part it is. Assumes nothing.
 use mathlib.Core.Path.{_≡_, refl, sym, ap, _∙_}
-use mathlib.Core.Bool.{Bool, _&&_}
+use mathlib.Core.Bool.{Bool, true, _&&_}
 use mathlib.Core.List.{List, _++_}
-use Prim.Native.Nat.{ℕ, _+_, _*_, _%_, _≤_, _<_}
+use Prim.Native.Nat.{ℕ, _+_, _*_, _≤_, _<_}
 use native.Mathlib.Omega.{arith}
-use lib.Dec.{eqb, ltb}
 use lib.ListN.{length}
 use native.Mathlib.Decide.{decLt}
 use borrow.Author.Tests.{lt-ltb, le-ltb}
-use Rattle.refusal.proofs.Says.{Says, says-and, says-lt, says-eq, says-iff, says-once, refuted, stable}
+use Rattle.refusal.proofs.Says.{Says, says-so, says-and, says-lt, says-eq, says-iff, says-once, refuted, stable}
 use Rattle.record.specs.Kinds.{newPoint, newArc, pairGuess, numberGuess, Declaration}
 use Rattle.record.specs.Record.{mostRecords}
 use Rattle.record.specs.Entry.{Label, Entry}
 use Rattle.names.specs.Labels.{kindNo, nameNo, within, labelled, lowestOr}
 use Rattle.names.specs.Cut.{stem, behind, Pointless, knownParts, partNo, KnownPart}
-use Rattle.names.specs.Names.{declarer, packed, nameFor, recordBy, sortBy, partBy, placeBy, guessesPart, guessIn, Clear}
+use Rattle.names.specs.Names.{declarer, packed, nameFor, recordBy, sortBy, partBy, tellsPart, placeBy, guessesPart, guessIn, Clear}
 use Rattle.names.proofs.Laws.{says-same, says-within}
 use Rattle.names.proofs.First.{lowest-here, lowest-at, lowest-same}
-use Rattle.names.proofs.Cut.{made-up, stem-of, behind-of, part-small, same-part}
+use Rattle.names.proofs.Cut.{made-up, stem-of, behind-of, part-small, suffixNo, suffix-of}
 
 -- the test for a label
 pub says-labelled : (es : List Entry) (low high : ℕ) (l : Label) (j : ℕ) → Says (labelled es low high l j) (((low ≤ kindNo es j) × (kindNo es j ≤ high)) × (nameNo es j ≡ l))
@@ -27,17 +26,9 @@ says-labelled es low high l j = says-and (says-within low high (kindNo es j)) (s
 
 -- ---- a name taken apart
 
--- the kind and the part that a sort tells
-parted : (kind p k q d name : ℕ) → p ≤ 5 → q ≤ 5 → kind ≤ 3 → name ≡ d * 32 + (kind * 8 + p) → name % 32 ≡ k * 8 + q → (kind ≡ k) × (p ≡ q)
-parted kind p k q d name a b c e f = (omega arith, omega arith)
-
 -- the record and the part that a name tells
 pub unpacked : (d kind p name : ℕ) → p ≤ 5 → kind ≤ 3 → name ≡ d * 32 + (kind * 8 + p) → (recordBy name ≡ d) × (sortBy name ≡ kind * 8 + p) × (partBy name ≡ p)
 unpacked d kind p name a b e = (omega arith, omega arith, omega arith)
-
--- the name of a declared shape's part is not 0
-positive : (name d kind p : ℕ) → 1 ≤ kind → name ≡ d * 32 + (kind * 8 + p) → 0 < name
-positive name d kind p a e = omega arith
 
 -- a place in the table of guesses tells a record and a part
 pub same-place : (d p j q : ℕ) → p < knownParts → q < knownParts → d * knownParts + p ≡ j * knownParts + q → (d ≡ j) × (p ≡ q)
@@ -104,51 +95,47 @@ module _ (es : List Entry) (w : Clear es) where
       let f : declarer es (stem l) ≡ j = ap (declarer es) s ∙ found-at j h d in
       rw (f, lt-ltb j (length es) h, r)
 
--- a name that tells a kind and a known part is that of such a shape's label with the part behind it
-pub name-so : (es : List Entry) (kind : ℕ) (suffix l : Label) → 1 ≤ kind → KnownPart suffix → sortBy (nameFor es l) ≡ kind * 8 + partNo suffix
-    → (recordBy (nameFor es l) < length es) × (kindNo es (recordBy (nameFor es l)) ≡ kind) × (nameNo es (recordBy (nameFor es l)) ++ suffix ≡ l)
-name-so es kind suffix l b k e =
-    let d = declarer es (stem l) in
-    let h : d < length es = declared es l (λ z. omega (arith, z, e)) in
-    let (decl, name) = declares es l h in
-    let is = name-is es l h in
-    let (same-kind, same-no) = parted (kindNo es d) (partNo (behind l)) kind (partNo suffix) d (nameFor es l) (part-small (behind l)) (part-small suffix) (decl .1) is e in
-    let (at, sort, part) = unpacked d (kindNo es d) (partNo (behind l)) (nameFor es l) (part-small (behind l)) (decl .1) is in
-    rw at (h, same-kind, ap (λ (n : Label). n ++ suffix) name ∙ ap (λ (r : Label). stem l ++ r) (sym (same-part (behind l) suffix k same-no)) ∙ made-up l)
+-- ---- a name that tells a known part
 
--- ---- parts
+pub says-tells : (name : ℕ) → Says (tellsPart name) ((0 < name) × (partBy name < knownParts))
+says-tells name = says-and (says-lt 0 name) (says-lt (partBy name) knownParts)
 
-module _ (es : List Entry) (w : Clear es) (j : ℕ) (suffix : Label) (h : j < length es) (d : Declaration (kindNo es j)) (k : KnownPart suffix) where
-  -- a label is that of a declared shape with a known part behind it exactly if its name tells both
-  pub says-part : (l : Label) → Says (eqb (nameFor es l) (packed es j (partNo suffix))) (l ≡ nameNo es j ++ suffix)
-  says-part l = says-iff so (λ e. name-of es w j suffix l h d k (sym e)) (says-eq _ _)
-    where
-      so : nameFor es l ≡ packed es j (partNo suffix) → l ≡ nameNo es j ++ suffix
-      so e =
-          let (at, sort, part) = unpacked j (kindNo es j) (partNo suffix) (nameFor es l) (part-small suffix) (d .1) e in
-          let (inside, kind, name) = name-so es (kindNo es j) suffix l (d .0) k sort in
-          sym name ∙ ap (λ (i : ℕ). nameNo es i ++ suffix) at
+module _ (es : List Entry) where
+  -- a label with such a name is that of the record that it tells, with the part behind it
+  told-label : (l : Label) → tellsPart (nameFor es l) ≡ true → let name = nameFor es l in
+      (recordBy name < length es) × Declaration (kindNo es (recordBy name)) × (sortBy name ≡ kindNo es (recordBy name) * 8 + partBy name) × (nameNo es (recordBy name) ++ suffixNo (partBy name) ≡ l)
+  told-label l t =
+      let (some, small) = says-tells (nameFor es l) .so t in
+      let h = declared es l (λ z. omega (arith, z, some)) in
+      let (decl, name) = declares es l h in
+      let d = declarer es (stem l) in
+      let (at, sort, part) = unpacked d (kindNo es d) (partNo (behind l)) (nameFor es l) (part-small (behind l)) (decl .1) (name-is es l h) in
+      rw (at, part) (h, decl, sort, ap (λ (n : Label). n ++ suffixNo (partNo (behind l))) name ∙ ap (λ (r : Label). stem l ++ r) (sym (suffix-of (behind l) (rw part at small))) ∙ made-up l)
 
-  -- the lowest guess of the part is the lowest with that label
-  pub guess-at : guessIn es (j * knownParts + partNo suffix) ≡ lowestOr (length es) (labelled es pairGuess numberGuess (nameNo es j ++ suffix))
+  -- a name that tells a kind and a known part is that of such a shape's label with the part behind it
+  pub name-so : (kind : ℕ) (suffix l : Label) → 1 ≤ kind → KnownPart suffix → sortBy (nameFor es l) ≡ kind * 8 + partNo suffix
+      → (recordBy (nameFor es l) < length es) × (kindNo es (recordBy (nameFor es l)) ≡ kind) × (nameNo es (recordBy (nameFor es l)) ++ suffix ≡ l)
+  name-so kind suffix l b k e =
+      let part : partBy (nameFor es l) ≡ partNo suffix = omega (arith, e, part-small suffix) in
+      let (inside, decl, sort, label) = told-label l (says-tells (nameFor es l) .back (omega (arith, e), rw part (k .one))) in
+      (inside, omega (arith, sort, e, part), rw (part, ← suffix-of suffix (k .one)) at label)
+
+  -- the lowest guess of the part that a label tells is the lowest with that label
+  pub guess-named : (l : Label) → tellsPart (nameFor es l) ≡ true → guessIn es (placeBy (nameFor es l)) ≡ lowestOr (length es) (labelled es pairGuess numberGuess l)
   unfolding guessesPart labelled
-  guess-at =
-      lowest-same (length es) _ _
-      (λ i b. ap (λ (t : Bool). within pairGuess numberGuess (kindNo es i) && t) (says-once (said i) (says-same (nameNo es i) (nameNo es j ++ suffix))))
+  guess-named l t = lowest-same (length es) _ _ (λ i b. ap (λ (x : Bool). within pairGuess numberGuess (kindNo es i) && x)
+      (says-once (says-iff (λ w. alike (nameNo es i) (w .0) (w .1)) (λ e. (rw e t, rw e refl)) (says-and says-so (says-eq _ _))) (says-same (nameNo es i) l)))
     where
-      said : (i : ℕ) → Says ((ltb 0 (nameFor es (nameNo es i)) && ltb (partBy (nameFor es (nameNo es i))) knownParts) && eqb (placeBy (nameFor es (nameNo es i))) (j * knownParts + partNo suffix)) (nameNo es i ≡ nameNo es j ++ suffix)
-      said i = says-iff so back (says-and (says-and (says-lt _ _) (says-lt _ _)) (says-eq _ _))
-        where
-          so : ((0 < nameFor es (nameNo es i)) × (partBy (nameFor es (nameNo es i)) < knownParts)) × (placeBy (nameFor es (nameNo es i)) ≡ j * knownParts + partNo suffix) → nameNo es i ≡ nameNo es j ++ suffix
-          so t =
-              let b : declarer es (stem (nameNo es i)) < length es = declared es (nameNo es i) (λ z. omega (arith, z, t .0 .0)) in
-              let (decl, name) = declares es (nameNo es i) b in
-              let (at, sort, part) = unpacked (declarer es (stem (nameNo es i))) (kindNo es (declarer es (stem (nameNo es i)))) (partNo (behind (nameNo es i))) (nameFor es (nameNo es i)) (part-small (behind (nameNo es i))) (decl .1) (name-is es (nameNo es i) b) in
-              let (same-record, same-no) = same-place (declarer es (stem (nameNo es i))) (partNo (behind (nameNo es i))) j (partNo suffix) (rw part at (t .0 .1)) (k .one) (rw (at, part) at (t .1)) in
-              says-part (nameNo es i) .so (says-eq _ _ .back (rw (same-record, same-no) at (name-is es (nameNo es i) b)))
+      -- two labels that tell the same part are the same
+      alike : (m : Label) → tellsPart (nameFor es m) ≡ true → placeBy (nameFor es m) ≡ placeBy (nameFor es l) → m ≡ l
+      alike m u e =
+          let (same-record, same-no) = same-place _ _ _ _ (says-tells (nameFor es m) .so u .1) (says-tells (nameFor es l) .so t .1) e in
+          sym (told-label m u .3) ∙ (λ i. nameNo es (same-record i) ++ suffixNo (same-no i)) ∙ told-label l t .3
 
-          back : nameNo es i ≡ nameNo es j ++ suffix → ((0 < nameFor es (nameNo es i)) × (partBy (nameFor es (nameNo es i)) < knownParts)) × (placeBy (nameFor es (nameNo es i)) ≡ j * knownParts + partNo suffix)
-          back e =
-              let n = name-of es w j suffix (nameNo es i) h d k (sym e) in
-              let (at, sort, part) = unpacked j (kindNo es j) (partNo suffix) (nameFor es (nameNo es i)) (part-small suffix) (d .1) n in
-              ((positive (nameFor es (nameNo es i)) j (kindNo es j) (partNo suffix) (d .0) n, rw part (k .one)), rw (at, part) refl)
+  -- so it is for the label of a declared shape with a known part behind it
+  pub guess-at : (w : Clear es) (j : ℕ) (suffix : Label) → j < length es → Declaration (kindNo es j) → KnownPart suffix
+      → guessIn es (j * knownParts + partNo suffix) ≡ lowestOr (length es) (labelled es pairGuess numberGuess (nameNo es j ++ suffix))
+  guess-at w j suffix h d k =
+      let n = name-of es w j suffix (nameNo es j ++ suffix) h d k refl in
+      let (at, sort, part) = unpacked j (kindNo es j) (partNo suffix) (nameFor es (nameNo es j ++ suffix)) (part-small suffix) (d .1) n in
+      rw (at, part) at (guess-named (nameNo es j ++ suffix) (says-tells (nameFor es (nameNo es j ++ suffix)) .back (omega (arith, n, d .0), rw part (k .one))))

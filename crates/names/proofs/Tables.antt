@@ -17,10 +17,10 @@ use Rattle.record.specs.Decode.{countOf, decodeAt}
 use Rattle.record.specs.Entry.{Entry, noEntry, entryAt, labelNo}
 use Rattle.record.specs.Laid.{LaidOut}
 use Rattle.names.specs.Labels.{drawn, kindNo, within, lowestOr}
-use Rattle.names.specs.Names.{nameAt, recordBy, namePlaces, nameIn, namesOf, guessPlaces, placeBy, guessesPart, guessIn, guessesOf}
-use Rattle.names.specs.Steps.{FilledWith, NamedUpTo, Inside, firstName, tellsPart, noted, NotedFrom}
+use Rattle.names.specs.Names.{nameAt, recordBy, tellsPart, namePlaces, nameIn, namesOf, guessPlaces, placeBy, guessesPart, guessIn, guessesOf}
+use Rattle.names.specs.Steps.{FilledWith, NamedUpTo, Inside, firstName, noted, NotedFrom}
 use Rattle.names.proofs.Laws.{says-within}
-use Rattle.names.proofs.First.{put, from-more, from-stop, from-end, from-plain, lowest-same}
+use Rattle.names.proofs.First.{put, from-plain, lowest-same, firsts-out, firsts-in}
 use Rattle.names.proofs.Drawn.{known-at, labels-some, drawn-length, drawn-kind}
 use Rattle.names.proofs.Names.{name-inside}
 
@@ -114,29 +114,18 @@ module _ (es : List Entry) where
 
 -- ---- guesses
 
-module _ (bs names guesses : List ℕ) where
-  -- none yet
-  pub noted-none : FilledWith guessPlaces (countOf bs) guesses → NotedFrom bs names (countOf bs) guesses
-  noted-none f = record { long = f .long; each = λ k b. f .each k b ∙ sym (from-end (noted bs names k) (countOf bs) (countOf bs) (omega arith)) }
+module _ (bs names guesses : List ℕ) (j : ℕ) (lt : j < countOf bs) (c : NotedFrom bs names (j + 1) guesses) where
+  -- a record that guesses no known part
+  pub noted-out : (leb pairGuess (decodeAt bs j .kind) && tellsPart (firstName names j)) ≡ false → NotedFrom bs names j guesses
+  unfolding noted
+  noted-out e = firsts-out (noted bs names) guessPlaces (countOf bs) guesses j lt c (λ k. rw e)
 
-  module _ (j : ℕ) (lt : j < countOf bs) (c : NotedFrom bs names (j + 1) guesses) where
-    -- a record that guesses no known part
-    pub noted-out : (leb pairGuess (decodeAt bs j .kind) && tellsPart (firstName names j)) ≡ false → NotedFrom bs names j guesses
-    unfolding noted
-    noted-out e = record { long = c .long; each = λ k b. c .each k b ∙ sym (from-more (noted bs names k) (countOf bs) j lt (rw e)) }
-
-    -- one that does comes before those that were noted
-    pub noted-in : (place : ℕ) → place ≡ placeBy (firstName names j) → (leb pairGuess (decodeAt bs j .kind) && tellsPart (firstName names j)) ≡ true → place < guessPlaces
-        → NotedFrom bs names j (set guesses place j)
-    unfolding noted
-    noted-in place z e b =
-        let inside : place < length guesses = omega (arith, c .long) in
-        record {
-          long = length-set guesses place j ∙ c .long;
-          each = λ k kb. put guesses place j k inside _
-              (λ q. sym (from-stop (noted bs names k) (countOf bs) j lt (rw e (eq-eqb _ k (sym z ∙ sym q)))))
-              (λ q. c .each k kb ∙ sym (from-more (noted bs names k) (countOf bs) j lt (rw e (ne-eqb _ k (λ g. q (sym g ∙ sym z))))));
-        }
+  -- one that does comes before those that were noted
+  pub noted-in : (place : ℕ) → place ≡ placeBy (firstName names j) → (leb pairGuess (decodeAt bs j .kind) && tellsPart (firstName names j)) ≡ true → place < guessPlaces
+      → NotedFrom bs names j (set guesses place j)
+  unfolding noted
+  noted-in place z e b =
+      firsts-in (noted bs names) guessPlaces (countOf bs) guesses j lt c place b (rw e (eq-eqb _ _ (sym z))) (λ k q. rw e (ne-eqb _ k (λ g. q (sym g ∙ sym z))))
 
 -- of records that are laid out, with the table of their names, the table is that of guesses
 module _ (text bs : List ℕ) (w : LaidOut text bs) where

@@ -37,6 +37,11 @@ firstAmong p (suc m) i = cond (p i) i (firstAmong p m (suc i))
 unfoldable pub firstFrom : (ℕ → Bool) → ℕ → ℕ → ℕ
 firstFrom p n i = firstAmong p (n - i) i
 
+-- a table holds for each of its places the first number from m on and below n that belongs there
+pub record FirstsFrom (belongs : ℕ → ℕ → Bool) (places n m : ℕ) (table : List ℕ) : Type 0 where
+  pub long : length table ≡ places
+  pub each : (k : ℕ) → k < places → getD table k 0 ≡ firstFrom (belongs k) n m
+
 -- the table holds the next of each declaration from k on
 abbrev pub NextsFrom : List Entry → ℕ → List ℕ → Type 0
 NextsFrom es k nexts =
@@ -44,7 +49,7 @@ NextsFrom es k nexts =
 
 -- the tables hold the chains of the entries from k on
 pub record ChainedFrom (es : List Entry) (k : ℕ) (heads nexts : List ℕ) : Type 0 where
-  pub head : (h : ℕ) → h < chains → getD heads h 0 ≡ firstFrom (hashed es h) (length es) k
+  pub head : FirstsFrom (hashed es) chains (length es) k heads
   pub next : NextsFrom es k nexts
 
 -- and of all

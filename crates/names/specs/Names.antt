@@ -21,9 +21,16 @@ use Rattle.names.specs.Cut.{stem, behind, Pointless, knownParts, partNo}
 abbrev pub declarer : List Entry → Label → ℕ
 declarer es l = lowestOr (length es) (labelled es newPoint newArc l)
 
+-- a name counts parts by ones, kinds by eights and records by 32
+abbrev pub perKind : ℕ
+perKind = 8
+
+abbrev pub perRecord : ℕ
+perRecord = 32
+
 -- a declaring record, its kind and a part as one number
 abbrev pub packed : List Entry → ℕ → ℕ → ℕ
-packed es d part = d * 32 + (kindNo es d * 8 + part)
+packed es d part = d * perRecord + (kindNo es d * perKind + part)
 
 -- the name of a label, and 0 where nobody declares it
 unfoldable pub nameFor : List Entry → Label → ℕ
@@ -37,15 +44,23 @@ nameAt es i q = nameFor es (labelNo (entryAt es i) q)
 
 -- the declaring record
 abbrev pub recordBy : ℕ → ℕ
-recordBy name = name / 32
+recordBy name = name / perRecord
 
 -- the kind of the declared shape with the part: the sort
 abbrev pub sortBy : ℕ → ℕ
-sortBy name = name % 32
+sortBy name = name % perRecord
+
+-- that kind
+abbrev pub kindBy : ℕ → ℕ
+kindBy name = sortBy name / perKind
 
 -- the part
 abbrev pub partBy : ℕ → ℕ
-partBy name = name % 8
+partBy name = name % perKind
+
+-- it tells a known part
+abbrev pub tellsPart : ℕ → Bool
+tellsPart name = ltb 0 name && ltb (partBy name) knownParts
 
 -- ---- where a name says what the label says
 
@@ -77,9 +92,13 @@ guessPlaces = mostRecords * knownParts
 abbrev pub placeBy : ℕ → ℕ
 placeBy name = recordBy name * knownParts + partBy name
 
--- entry i is a guess of the part whose place is k
+-- a record of a kind, whose label has a name, is a guess of the part whose place is k
+abbrev pub guessesAt : ℕ → ℕ → ℕ → Bool
+guessesAt kind name k = within pairGuess numberGuess kind && (tellsPart name && eqb (placeBy name) k)
+
+-- entry i is one
 unfoldable pub guessesPart : List Entry → ℕ → ℕ → Bool
-guessesPart es k i = within pairGuess numberGuess (kindNo es i) && ((ltb 0 (nameAt es i 0) && ltb (partBy (nameAt es i 0)) knownParts) && eqb (placeBy (nameAt es i 0)) k)
+guessesPart es k i = guessesAt (kindNo es i) (nameAt es i 0) k
 
 -- the lowest record that guesses it, or the number of records
 abbrev pub guessIn : List Entry → ℕ → ℕ

@@ -3,15 +3,14 @@ use mathlib.Core.Path.{_≡_}
 use mathlib.Core.Bool.{Bool, _&&_}
 use mathlib.Core.List.{List}
 use Prim.Native.Nat.{ℕ, _*_, _≤_, _<_}
-use lib.Dec.{leb, ltb, eqb}
+use lib.Dec.{leb, eqb}
 use lib.ListN.{length, getD}
 use Rattle.record.specs.Kinds.{pairGuess}
 use Rattle.record.specs.Record.{mostRecords, labelPlaces}
 use Rattle.record.specs.Decode.{countOf, decodeAt}
 use Rattle.record.specs.Entry.{Entry}
-use Rattle.names.specs.Cut.{knownParts}
-use Rattle.names.specs.Chains.{firstFrom}
-use Rattle.names.specs.Names.{recordBy, partBy, namePlaces, nameIn, guessPlaces, placeBy}
+use Rattle.names.specs.Chains.{FirstsFrom}
+use Rattle.names.specs.Names.{recordBy, tellsPart, namePlaces, nameIn, guessPlaces, placeBy}
 
 -- a table of m places with one number at each
 pub record FilledWith (m v : ℕ) (xs : List ℕ) : Type 0 where
@@ -32,15 +31,10 @@ Inside names = (k : ℕ) → recordBy (getD names k 0) < mostRecords
 abbrev pub firstName : List ℕ → ℕ → ℕ
 firstName names i = getD names (i * labelPlaces) 0
 
--- a name tells a known part
-abbrev pub tellsPart : ℕ → Bool
-tellsPart name = ltb 0 name && ltb (partBy name) knownParts
-
 -- record i is, by its kind and the table of names, a guess of the part whose place is k
 unfoldable pub noted : List ℕ → List ℕ → ℕ → ℕ → Bool
 noted bs names k i = (leb pairGuess (decodeAt bs i .kind) && tellsPart (firstName names i)) && eqb (placeBy (firstName names i)) k
 
 -- the table of guesses holds for each part the lowest record from m on that guesses it
-pub record NotedFrom (bs names : List ℕ) (m : ℕ) (guesses : List ℕ) : Type 0 where
-  pub long : length guesses ≡ guessPlaces
-  pub each : (k : ℕ) → k < guessPlaces → getD guesses k 0 ≡ firstFrom (noted bs names k) (countOf bs) m
+abbrev pub NotedFrom : List ℕ → List ℕ → ℕ → List ℕ → Type 0
+NotedFrom bs names = FirstsFrom (noted bs names) guessPlaces (countOf bs)

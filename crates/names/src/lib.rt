@@ -4,6 +4,7 @@
 mod chains;
 pub mod labels;
 mod pieces;
+pub mod read;
 
 ghost use mathlib.Core.Path.{_≡_};
 ghost use Prim.Native.Nat.{_+_, _*_, _≤_, _<_};
@@ -23,6 +24,7 @@ use labels::kind_of;
 use labels::label_of;
 use pieces::front;
 use pieces::part_of;
+use read::wide;
 use record::MOST;
 use record::PLACES;
 use record::SIZE;
@@ -32,7 +34,18 @@ use record::kinds::LABELS;
 use record::kinds::PAIR_GUESS;
 use record::kinds::look;
 
-// How many parts a shape's label can have behind it that are told apart, nothing among them; and the parts from this on are no such part.
+// The parts that can stand behind a shape's label, nothing among them.
+pub const WHOLE: usize = 0;
+
+pub const CENTER: usize = 1;
+
+pub const RADIUS: usize = 2;
+
+pub const A: usize = 3;
+
+pub const B: usize = 4;
+
+// How many they are, and the number of any other part.
 pub const PARTS: usize = 5;
 
 // A name is (the declaring record) * STEP + (its kind) * SORTS + (the part); 0 is no name, as every kind is 1 at least.
@@ -44,13 +57,6 @@ pub const SORTS: usize = 8;
 pub const NAMES: usize = 7_200;
 
 pub const GUESSES: usize = 9_000;
-
-// A number of two bytes.
-fn wide(x: u16) -> usize
-    ensures { λ r. ⌜ r ≡ x ⌝ }
-{
-    x as usize
-}
 
 // Puts one number in each place of a table.
 fn fill(table: &mut [u16], v: u16)
@@ -133,12 +139,10 @@ fn note(records: &[u8], names: &[u16; NAMES], guesses: &mut [u16; GUESSES])
     let mut i = records.len() / SIZE;
     while 0 < i {
         i -= 1;
-        if PAIR_GUESS <= kind_of(records, i) {
-            let name = wide(names[i * PLACES]);
-            let part = name % SORTS;
-            if (0 < name) & (part < PARTS) {
-                guesses[name / STEP * PARTS + part] = i as u16;
-            }
+        let name = wide(names[i * PLACES]);
+        let part = name % SORTS;
+        if (PAIR_GUESS <= kind_of(records, i)) & ((0 < name) & (part < PARTS)) {
+            guesses[name / STEP * PARTS + part] = i as u16;
         }
     }
 }

@@ -4,8 +4,15 @@ ghost use Prim.Native.Nat.{_<_};
 ghost use lib.ListN.{length};
 ghost use Rattle.names.specs.Cut.{stem, partNo};
 ghost use Rattle.names.specs.Chains.{chains, hashOf};
+use crate::A;
+use crate::B;
+use crate::CENTER;
+use crate::PARTS;
+use crate::RADIUS;
+use crate::WHOLE;
 use crate::chains::HEADS;
 use crate::labels::same;
+use crate::read::either;
 
 // How long a label is up to its first point, and the hash of that.
 pub(crate) struct Stem {
@@ -35,19 +42,10 @@ pub(crate) fn part_of(rest: &[u8]) -> usize
     ensures { λ r. ⌜ r ≡ partNo (now (rest .entry)) ⌝ }
 {
     if rest.len() == 0 {
-        return 0;
+        return WHOLE;
     }
-    if same(rest, b".center") {
-        return 1;
-    }
-    if same(rest, b".radius") {
-        return 2;
-    }
-    if same(rest, b".a") {
-        return 3;
-    }
-    if same(rest, b".b") {
-        return 4;
-    }
-    5
+    let b = either(same(rest, b".b"), B, PARTS);
+    let a = either(same(rest, b".a"), A, b);
+    let radius = either(same(rest, b".radius"), RADIUS, a);
+    either(same(rest, b".center"), CENTER, radius)
 }

@@ -11,7 +11,8 @@ use Rattle.record.proofs.Cells.{looked, labels-is}
 use Rattle.names.specs.Labels.{drawn, kindNo}
 use Rattle.names.specs.Names.{nameIn}
 use Rattle.names.specs.Steps.{NamedUpTo}
-use Rattle.names.proofs.Drawn.{labels-few, drawn-kind}
+use Rattle.record.proofs.Table.{few-labels}
+use Rattle.names.proofs.Drawn.{drawn-kind}
 use Rattle.names.proofs.Tables.{name-there, named-more, named-on, absent-behind}
 use Rattle.names.proofs.name_record.Statement.{statement}
 use Rattle.names.proofs.name_record.Tie as tie
@@ -30,7 +31,7 @@ labels-are c =
     let k = c .before .kind-of in
     let p = s .pre in
     let is = looked (s .args .kinds .now) (k .result) 0 (c .look .result) (p .0) (c .look .ensures) (labels-is (k .result)) ∙ ap (λ (n : ℕ). kindAt n .labels) (k .ensures) in
-    (is, rw is (labels-few _ _ _ (p .3) (p .1 .each _ (p .3))), omega (arith, p .3, p .1 .few))
+    (is, rw is (few-labels (decodeAt (s .args .records .now) (s .args .i) .kind)), omega (arith, p .3, p .1 .few))
 
 loop-holds : tie.Need-loop-holds Inv-loop μ-loop
 loop-holds c =

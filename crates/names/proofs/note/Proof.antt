@@ -1,18 +1,19 @@
 -- `names::note` meets its contract: the table holds the lowest of the records from i on that guess each part. The measure is how many are
 -- left. Assumes nothing.
 use borrow.Author.Needs.{needs}
-use borrow.Author.Tests.{ltb-true, le-leb, lt-leb}
 use mathlib.Core.Path.{_≡_, ap}
-use Prim.Native.Nat.{_+_, _-_, _/_, _%_, _≤_, _<_}
+use Prim.Native.Nat.{_+_, _-_, _*_, _≤_, _<_}
 use native.Mathlib.Omega.{arith}
-use lib.Dec.{ltb}
+use lib.Dec.{leb}
 use Rattle.ground.proofs.Lists.{and-second}
 use Rattle.record.specs.Kinds.{pairGuess}
-use Rattle.record.specs.Record.{mostRecords}
+use Rattle.record.specs.Record.{mostRecords, labelPlaces}
 use Rattle.record.specs.Decode.{countOf}
 use Rattle.names.specs.Names.{placeBy, guessPlaces}
-use Rattle.names.specs.Steps.{firstName, NotedFrom}
-use Rattle.names.proofs.Tables.{noted-none, noted-out, noted-in}
+use Rattle.names.specs.Steps.{NotedFrom}
+use Rattle.names.proofs.First.{firsts-none}
+use Rattle.names.proofs.Names.{says-tells}
+use Rattle.names.proofs.Tables.{noted-out, noted-in}
 use Rattle.names.proofs.note.Statement.{statement}
 use Rattle.names.proofs.note.Tie as tie
 
@@ -22,51 +23,32 @@ Inv-loop records names guesses₀ i₀ guesses i = (i ≤ countOf records) × No
 abbrev μ-loop : tie.MeasureT-loop
 μ-loop records names guesses₀ i₀ guesses i = i
 
--- record i - 1 is there
-inside : (c : tie.In-loop Inv-loop μ-loop) → let s = c .before .before .before in
-    (c .before .loop .i - 1 < countOf (s .args .records .now)) × (c .before .loop .i - 1 < mostRecords)
-inside c = (omega arith, omega (arith, c .before .before .before .pre .0))
-
--- the table so far
-so-far : (c : tie.In-loop Inv-loop μ-loop) → let a = c .before .before .before .args in NotedFrom (a .records .now) (a .names .now) (c .before .loop .i - 1 + 1) (c .before .loop .guesses)
+-- record i - 1 is there, with the table so far
+so-far : (c : tie.In-loop Inv-loop μ-loop) → let a = c .before .before .before .args in let j = c .before .loop .i - 1 in
+    (j < countOf (a .records .now)) × (j < mostRecords) × NotedFrom (a .records .now) (a .names .now) (j + 1) (c .before .loop .guesses)
 so-far c =
     let l = c .before .loop in
     let e : l .i ≡ l .i - 1 + 1 = omega arith in
-    rw e at (l .inv .1)
+    (omega arith, omega (arith, c .before .before .before .pre .0), rw e at (l .inv .1))
 
--- the name is that of the table, and tells a record that can be there
-name-is : (c : tie.After-wide Inv-loop μ-loop) → let b = c .before .before .before .before in let a = b .before .before .before .args in
-    (c .wide .result ≡ firstName (a .names .now) (b .before .loop .i - 1)) × (c .wide .result / 32 < mostRecords)
-name-is c =
-    let s = c .before .before .before .before .before .before .before in
-    (c .wide .ensures, rw (c .wide .ensures) (s .pre .1 _))
-
--- its place is in the table
-place-inside : (c : tie.Then2 Inv-loop μ-loop) → placeBy (c .before .wide .result) < guessPlaces
+-- the place of a guess is in the table
+place-inside : (c : tie.Then1 Inv-loop μ-loop) → placeBy (c .before .before .wide .result) < guessPlaces
 place-inside c =
-    let n = c .before .wide .result in
-    omega (arith, name-is (c .before) .1, ltb-true (n % 8) 5 (and-second (ltb 0 n) (ltb (n % 8) 5) (c .if2 .taken)))
+    let w = c .before .before in
+    let inside = w .before .before .before .before .before .pre .1 ((w .before .before .before .loop .i - 1) * labelPlaces) in
+    omega (arith, w .wide .ensures, inside, says-tells (w .wide .result) .so (and-second (leb pairGuess (c .before .kind-of .result)) _ (c .if1 .taken)) .1)
 
 loop-again : tie.Need-loop-again Inv-loop μ-loop
 loop-again c =
-    let b = c .before .before .before in
-    let t = b .before .before in
-    let k = b .before .kind-of in
-    let n = name-is (c .before) in
-    (omega arith, noted-in _ _ _ _ (inside t .0) (so-far t) _ (ap placeBy (n .0)) (rw (← k .ensures, le-leb pairGuess (k .result) (b .if1 .taken), ← n .0) (c .if2 .taken)) (place-inside c))
+    let w = c .before .before in
+    let (there, few, so) = so-far (w .before .before) in
+    (omega arith, noted-in _ _ _ _ there so _ (ap placeBy (w .wide .ensures)) (rw (c .before .kind-of .ensures, w .wide .ensures) at (c .if1 .taken)) (place-inside c))
 
 loop-again-2 : tie.Need-loop-again-2 Inv-loop μ-loop
 loop-again-2 c =
-    let b = c .before .before .before in
-    let t = b .before .before in
-    let k = b .before .kind-of in
-    let n = name-is (c .before) in
-    (omega arith, noted-out _ _ _ _ (inside t .0) (so-far t) (rw (← k .ensures, le-leb pairGuess (k .result) (b .if1 .taken), ← n .0) (c .if2 .left)))
-
-loop-again-3 : tie.Need-loop-again-3 Inv-loop μ-loop
-loop-again-3 c =
-    let t = c .before .before in
-    (omega arith, noted-out _ _ _ _ (inside t .0) (so-far t) (rw (← c .before .kind-of .ensures, lt-leb pairGuess (c .before .kind-of .result) (c .if1 .left))))
+    let w = c .before .before in
+    let (there, few, so) = so-far (w .before .before) in
+    (omega arith, noted-out _ _ _ _ there so (rw (c .before .kind-of .ensures, w .wide .ensures) at (c .if1 .left)))
 
 returns : tie.Need-returns Inv-loop μ-loop
 returns c =
@@ -75,4 +57,6 @@ returns c =
     rw e at (l .inv .1)
 
 pub note-spec : {M : Type 1} → statement M
-note-spec = tie.close (tie.spec Inv-loop μ-loop (λ c. (omega arith, noted-none _ _ _ (c .before .pre .2))) (λ c. search needs) (λ c κs. inside c .0) (λ c. omega (arith, inside (c .before .before))) (λ c. omega (arith, inside (c .before .before))) (λ c. omega (arith, inside (c .before .before))) (λ c κs. search needs) (λ c. omega (arith, inside (c .before .before .before .before .before))) (λ c. omega (arith, place-inside c)) (λ c. omega (arith, place-inside c)) (λ c. omega (arith, place-inside c)) (λ c. place-inside c) (λ c. search needs) loop-again (λ c. search needs) loop-again-2 (λ c. search needs) loop-again-3 returns)
+note-spec = tie.close (tie.spec Inv-loop μ-loop (λ c. (omega arith, firsts-none _ _ _ _ _ (omega arith) (c .before .pre .2))) (λ c. search needs) (λ c. omega (arith, so-far c .1)) (λ c. omega (arith, so-far c .1))
+    (λ c. omega (arith, so-far c .1)) (λ c κs. search needs) (λ c κs. so-far (c .before .before) .0) (λ c. omega (arith, so-far (c .before .before .before .before) .1)) (λ c. omega (arith, place-inside c)) (λ c. omega (arith, place-inside c))
+    (λ c. omega (arith, place-inside c)) (λ c. place-inside c) (λ c. search needs) loop-again (λ c. search needs) loop-again-2 returns)

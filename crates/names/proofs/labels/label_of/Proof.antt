@@ -5,13 +5,15 @@ use mathlib.Core.Path.{_≡_, sym, _∙_}
 use Prim.Native.Nat.{_+_, _-_, _<_}
 use native.Mathlib.Omega.{arith}
 use Rattle.record.specs.Record.{labelPlaces}
-use Rattle.names.proofs.Drawn.{labels-few, view-inside, label-read, drawn-label}
+use Rattle.record.specs.Decode.{decodeAt}
+use Rattle.record.proofs.Table.{few-labels}
+use Rattle.names.proofs.Drawn.{view-inside, label-read, drawn-label}
 use Rattle.names.proofs.labels.label_of.Statement.{statement}
 use Rattle.names.proofs.labels.label_of.Tie as tie
 
 -- the label's place
 few : (c : tie.Start) → c .args .q < labelPlaces
-few c = let p = c .pre in omega (arith, p .2, labels-few _ _ _ (p .1) (p .0 .each _ (p .1)))
+few c = let p = c .pre in omega (arith, p .2, few-labels (decodeAt (c .args .records .now) (c .args .i) .kind))
 
 part-result-end : tie.Need-part-result-end
 part-result-end c =
