@@ -4,9 +4,8 @@ use mathlib.Core.Path.{_≡_, refl, _∙_}
 use mathlib.Core.List.{List}
 use Prim.Native.Nat.{ℕ, _+_, _*_, _≤_}
 use native.Mathlib.Omega.{arith}
-use lib.ListN.{length, getD, drop, List·getD-append}
-use lib.Ieee.{Float, nan}
-use Rattle.refusal.specs.First.{EachBelow}
+use lib.ListN.{length, drop}
+use lib.Ieee.{Float}
 use Rattle.layout.specs.Slots as layout
 use Rattle.layout.specs.Slots.{idsEnd}
 use Rattle.layout.specs.Push.{onward}
@@ -23,7 +22,7 @@ use Rattle.lowering.proofs.answer.Lacking.{lower-good}
 use Rattle.lowering.proofs.drawing.Counts.{rules-all, slot-count, passed-with, slot-number, rule-number}
 use Rattle.lowering.proofs.drawing.Fine.{Fine, fine}
 use Rattle.lowering.proofs.slots.Components.{one-component, slot-of}
-use Rattle.lowering.proofs.slots.Values.{starts, length-values, value-at}
+use Rattle.lowering.proofs.slots.Values.{starts, value-at}
 use Rattle.lowering.proofs.slots.Fields.{read-out}
 use Rattle.lowering.proofs.slots.Looked.{given-id, given-long, looked-up}
 use Rattle.lowering.proofs.rows.Bytes.{rule-inside, row-of}
@@ -31,9 +30,6 @@ use Rattle.lowering.proofs.rows.Bytes.{rule-inside, row-of}
 -- ---- what is written
 
 module _ (es : List Entry) (w : Fine es) (few : length es ≤ layout.mostShapes) (next : ℕ) (left : next + length (slots es) ≤ idsEnd) (ids : List ℕ) (values : List Float) (rows : List ℕ) where
-  written-value : EachBelow (length (slots es)) (λ j. getD (onto values (valuesOf es)) j nan ≡ getD (valuesOf es) j nan)
-  written-value j h = List·getD-append (valuesOf es) (drop (length (valuesOf es)) values) nan j (omega (arith, h, length-values es))
-
   pub cannot-go-wrong : CannotGoWrong es (howMany point es) (howMany circle es) (howMany arc es) (rulesBefore es (length es)) next
       (onto ids (onward next (length (slots es)))) (onto values (valuesOf es)) (onto rows (encodeRows (rowsOf es next)))
   cannot-go-wrong = record {
@@ -45,10 +41,11 @@ module _ (es : List Entry) (w : Fine es) (few : length es ≤ layout.mostShapes)
     distinct = λ j k h g e. omega (arith, e, given-id es next ids j h, given-id es next ids k g);
     fit = λ j h. omega (arith, h, left, given-id es next ids j h);
     one-component = one-component es w;
-    each-has-one = slot-of es w;
+    each-has-one = slot-of es;
     looked-up = λ i s k t c.
-        looked-up es few (onto ids (onward next (length (slots es)))) (given-long es next ids) i s k t (next + (firstSlot s es i + k)) c (given-id es next ids (firstSlot s es i + k) (slot-of es w i s k (c .declared) (c .one-of-it) .0));
-    starts = λ j h. rw (written-value j h, value-at es j h) (starts es w j h);
+        looked-up es few (onto ids (onward next (length (slots es)))) (given-long es next ids) i s k t (next + (firstSlot s es i + k)) c
+        (given-id es next ids (firstSlot s es i + k) (slot-of es i s k (c .declared) (c .one-of-it) .0));
+    starts = λ j h. rw (value-at es values j h) (starts es w j h);
     row-count = refl;
     one-row = λ i h u. (omega (arith, rule-inside es i h u, rules-all es), row-of es next i h u w left (drop (length (encodeRows (rowsOf es next))) rows));
     read-out = read-out es w few;

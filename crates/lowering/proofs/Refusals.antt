@@ -25,29 +25,36 @@ use Rattle.lowering.specs.declared.Lowered.{Lowered}
 use Rattle.lowering.specs.declared.Lowered.the-variants as L
 use Rattle.lowering.specs.Slots.{slots, layoutOf}
 use Rattle.lowering.specs.Rows.{rulesOf}
-use Rattle.lowering.specs.Lower.{Room, Lack, lackOrder, lackNumber, lacking, lackOf, lowerOf}
+use Rattle.lowering.specs.Lower.{Room, Lack, few-ids, short-slices, short-rows, lackOrder, lackNumber, lacking, lackOf, lowerOf}
 use Rattle.lowering.specs.Refusals.{Cause, fault, lack, causes, causeNumber, Causes}
 use Rattle.lowering.proofs.answer.Lacking.{says-lacking}
 
 -- ---- one answer behind another
 
--- the fault that the check found, or else what is lacking
-abbrev either : Answer Fault → Answer Cause → Answer Cause
-either (refused f i) rest = refused (fault f) i
-either passed rest = rest
+-- an answer as a cause, or else what comes behind it
+abbrev behind : {F : Type 0} → (F → Cause) → Answer F → Answer Cause → Answer Cause
+behind g (refused f i) rest = refused (g f) i
+behind g passed rest = rest
 
--- a lack, as a cause
-abbrev lacked : Answer Lack → Answer Cause
-lacked (refused l i) = refused (lack l) i
-lacked passed = passed
-
-in-turn : (a : Answer Fault) (b : Answer Lack) (last : Lowered) → answered numberOf L.Refused a (answered lackNumber L.Refused b last) ≡ answered causeNumber L.Refused (either a (lacked b)) last
+in-turn : (a : Answer Fault) (b : Answer Lack) (last : Lowered)
+    → answered numberOf L.Refused a (answered lackNumber L.Refused b last) ≡ answered causeNumber L.Refused (behind fault a (behind lack b passed)) last
 unfolding answered
 in-turn (refused f i) b last = refl
 in-turn passed (refused l i) last = refl
 in-turn passed passed last = refl
 
 -- ---- one search
+
+-- a search through one list and then another
+module _ {F : Type 0} (g : F → Cause) (tests : Cause → ℕ → Bool) (n : ℕ) where
+  first-behind : (fs : List F) (rest : List Cause) → first (map g fs ++ rest) tests n ≡ behind g (first fs (λ f. tests (g f)) n) (first rest tests n)
+  unfolding first
+  first-behind [] rest = refl
+  first-behind (f ∷ fs) rest = rw (first-behind fs rest) (go (lowest n (tests (g f))) (first fs (λ f. tests (g f)) n))
+    where
+      go : (o : Option ℕ) (a : Answer F) → tell (g f) o (behind g a (first rest tests n)) ≡ behind g (tell f o a) (first rest tests n)
+      go (some i) a = refl
+      go none a = refl
 
 -- what holds at 0 alone is looked for there
 at-zero : (n : ℕ) (b : Bool) → lowest (suc n) (λ i. eqb i 0 && b) ≡ lowest 1 (λ i. b)
@@ -69,32 +76,12 @@ module _ (es : List Entry) (room : Room) where
   says (fault f) i = agree es f i
   says (lack l) i = says-and (says-eq i 0) (says-lacking es room l i)
 
-  faults-first : (fs : List Fault) (rest : List Cause) → first (map fault fs ++ rest) tests (places es) ≡ either (first fs (test es) (places es)) (first rest tests (places es))
-  unfolding first
-  faults-first [] rest = refl
-  faults-first (f ∷ fs) rest = rw (faults-first fs rest) (go (lowest (places es) (test es f)))
-    where
-      go : (o : Option ℕ) → tell (fault f) o (either (first fs (test es) (places es)) (first rest tests (places es))) ≡ either (tell f o (first fs (test es) (places es))) (first rest tests (places es))
-      go (some i) = refl
-      go none = refl
-
-  lacks-behind : (ls : List Lack) → first (map lack ls) tests (places es) ≡ lacked (first ls (λ l i. lacking es room l) 1)
-  unfolding first
-  lacks-behind [] = refl
-  lacks-behind (l ∷ ls) = rw (at-zero _ (lacking es room l), lacks-behind ls) (go (lowest 1 (λ i. lacking es room l)))
-    where
-      go : (o : Option ℕ) → tell (lack l) o (lacked (first ls (λ l i. lacking es room l) 1)) ≡ lacked (tell l o (first ls (λ l i. lacking es room l) 1))
-      go (some i) = refl
-      go none = refl
-
-  abbrev told : Answer Cause
-  told = first causes tests (places es)
-
-  lower-is : lowerOf es room ≡ answered causeNumber L.Refused told good
-  unfolding lowerOf checkOf lackOf once
+  lower-is : lowerOf es room ≡ answered causeNumber L.Refused (first causes tests (places es)) good
+  unfolding lowerOf checkOf lackOf once first
   lower-is =
       in-turn (checkOf es) (lackOf es room) good
-      ∙ rw (faults-first order (map lack lackOrder), lacks-behind lackOrder) refl
+      ∙ rw (first-behind fault tests (places es) order (map lack lackOrder), first-behind lack tests (places es) lackOrder [])
+      (rw (at-zero _ (lacking es room few-ids), at-zero _ (lacking es room short-slices), at-zero _ (lacking es room short-rows)) refl)
 
   -- ---- in words
 
@@ -110,7 +97,7 @@ module _ (es : List Entry) (room : Room) where
   pub lower-refused-iff : (number place : ℕ) → (lowerOf es room ≡ L.Refused (refusal number place)) ↔ ((c : Cause) × (causeNumber c ≡ number) × Told (Causes es room) (places es) causes c place)
   unfolding answered
   lower-refused-iff number place = (
-    λ e. let (c, n, w) = because told number place (sym lower-is ∙ e) in (c, n, refused-iff tests (Causes es room) says (places es) causes c place .0 w),
+    λ e. let (c, n, w) = because _ number place (sym lower-is ∙ e) in (c, n, refused-iff tests (Causes es room) says (places es) causes c place .0 w),
     λ w. lower-is ∙ rw (refused-iff tests (Causes es room) says (places es) causes (w .0) place .1 (w .2), w .1) refl,
   )
 
@@ -119,6 +106,6 @@ module _ (es : List Entry) (room : Room) where
   unfolding answered
   lower-good-iff = (
     λ e. passed-iff tests (Causes es room) says (places es) causes .0
-        (answered-good causeNumber L.Refused told good good (λ r q. let z : _≡_ {A = ℕ} 0 1 = cc in omega arith) (sym lower-is ∙ e)),
+        (answered-good causeNumber L.Refused (first causes tests (places es)) good good (λ r q. let z : _≡_ {A = ℕ} 0 1 = cc in omega arith) (sym lower-is ∙ e)),
     λ n. lower-is ∙ rw (passed-iff tests (Causes es room) says (places es) causes .1 n) refl,
   )

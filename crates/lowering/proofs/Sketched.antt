@@ -5,22 +5,23 @@ use mathlib.Core.Bool.{Bool, true, false, _&&_, cond}
 use mathlib.Core.List.{List, [], _∷_, _++_, map}
 use Prim.Native.Nat.{ℕ, _+_, _*_, _<_}
 use native.Mathlib.Omega.{arith}
-use native.Mathlib.Decide.{decLt}
-use lib.Dec.{ltb, eqb}
+use lib.Dec.{eqb}
 use lib.ListN.{length, getD, length-map, List·getD-map}
 use Rattle.ground.specs.Lists.{flat}
 use Rattle.ground.proofs.Pieces.{Each, each-of, getD-map}
 use Rattle.refusal.specs.First.{passed}
 use Rattle.layout.specs.Slots.{slotCount}
-use Rattle.record.specs.Kinds.{kindAt, Rule, Guess, firstRule, lastRule, pairGuess, numberGuess}
+use Rattle.record.specs.Kinds.{Rule, Guess, firstRule, lastRule, pairGuess, numberGuess}
 use Rattle.record.specs.Entry.{Entry, noEntry, entryAt}
-use Rattle.names.specs.Labels.{kindNo, nameNo, within, lowestOr}
+use Rattle.record.proofs.Table.{guess-label}
+use Rattle.names.specs.Labels.{kindNo, within, lowestOr}
 use Rattle.names.specs.Cut.{knownParts}
-use Rattle.names.specs.Names.{nameFor, partBy, placeBy, guessesPart, guessIn}
+use Rattle.names.specs.Names.{nameFor, tellsPart, placeBy, guessesPart, guessIn}
 use Rattle.names.proofs.Laws.{says-within}
 use Rattle.names.proofs.First.{lowest-same}
 use Rattle.row.specs.Row.{Row}
 use Rattle.drawing.specs.Check.{checkOf}
+use Rattle.drawing.proofs.Laws.{and-alike}
 use Rattle.lowering.specs.Slots.{layoutOf}
 use Rattle.lowering.specs.Rows.{rowFor, rulesOf, rowsOf}
 use Rattle.lowering.specs.Sketch.{lineFor, sketch, lineAt, kindIn, layoutIn, firstIn, firstBy, rowBy, rowIf, rowsBy, guessesBy, numbersBy, valuesIn, Sketched}
@@ -28,6 +29,10 @@ use Rattle.lowering.proofs.drawing.Counts.{length-slots}
 use Rattle.lowering.proofs.drawing.Fine.{Fine, fine}
 use Rattle.lowering.proofs.slots.Guesses.{numbersOf, values-in}
 use Rattle.lowering.proofs.rows.Tied.{ids-same}
+
+-- a name tells the part whose place is k
+abbrev tells : ℕ → ℕ → Bool
+tells k name = tellsPart name && eqb (placeBy name) k
 
 module _ (es : List Entry) where
   -- ---- lines
@@ -63,34 +68,27 @@ module _ (es : List Entry) where
         go true q = ap (λ (r : Row). r ∷ map (rowFor es next) (rulesOf fs)) (a .0 (says-within firstRule lastRule (e .kind) .so q))
         go false q = refl
 
-    rows-are : (next : ℕ) → rowsOf es next ≡ rowsBy next (sketch es)
-    unfolding rowsOf rowsBy sketch
-    rows-are next =
-        rows-same next es (each-of _ es noEntry (λ i h u. row-same i h u)) ∙ (λ j. flat (rowIf (sym first-are j) next) (sketch es))
+    pub rows-by : (next : ℕ) → rowsOf es next ≡ flat (rowIf (firstIn (kindNo es) (length es)) next) (sketch es)
+    unfolding rowsOf sketch
+    rows-by next = rows-same next es (each-of _ es noEntry row-same)
       where
         row-same : (i : ℕ) → i < length es → Rule (kindNo es i) → rowFor es next (entryAt es i) ≡ rowBy (firstIn (kindNo es) (length es)) next (lineFor es (entryAt es i))
         row-same i h u j = record { kind = kindNo es i; third = entryAt es i .third; ids = ids-same es w next i h u j; bits = entryAt es i .x }
 
+    rows-are : (next : ℕ) → rowsOf es next ≡ rowsBy next (sketch es)
+    unfolding rowsBy
+    rows-are next = rows-by next ∙ (λ j. flat (rowIf (sym first-are j) next) (sketch es))
+
     -- ---- starting values
 
-    -- a guess has one label, whose name is its line's first
-    one-label : (k : ℕ) → Guess k → kindAt k .labels ≡ 1
-    one-label k g =
-        elim (decLt k numberGuess) [
-          | yes b ↦ (let e : k ≡ pairGuess = omega (arith, b, g .0) in rw e refl)
-          | no f ↦ (let e : k ≡ numberGuess = omega (arith, f, g .1) in rw e refl)
-        ]
-
+    -- a guess has a label, whose name is its line's first
     guesses-same : (k i : ℕ) → i < length es → guessesBy (sketch es) k i ≡ guessesPart es k i
     unfolding guessesBy guessesPart
-    guesses-same k i h = (λ j. within pairGuess numberGuess (line-at i j .kind) && test (getD (line-at i j .names) 0 0)) ∙ go (within pairGuess numberGuess (kindNo es i)) refl
-      where
-        test : ℕ → Bool
-        test name = (ltb 0 name && ltb (partBy name) knownParts) && eqb (placeBy name) k
-
-        go : (b : Bool) → within pairGuess numberGuess (kindNo es i) ≡ b → (b && test (getD (map (nameFor es) (entryAt es i .labels)) 0 0)) ≡ (b && test (nameFor es (nameNo es i)))
-        go false e = refl
-        go true e = ap test (getD-map (nameFor es) (entryAt es i .labels) 0 [] 0 (omega (arith, w .sound i h .count, one-label (kindNo es i) (says-within pairGuess numberGuess (kindNo es i) .so e))))
+    guesses-same k i h =
+        let one : Guess (kindNo es i) → 0 < length (entryAt es i .labels) = λ g. omega (arith, w .sound i h .count, guess-label (kindNo es i) g) in
+        (λ j. within pairGuess numberGuess (line-at i j .kind) && tells k (getD (line-at i j .names) 0 0))
+        ∙ and-alike (within pairGuess numberGuess (kindNo es i)) _ _
+        (λ e. ap (tells k) (getD-map (nameFor es) (entryAt es i .labels) 0 [] 0 (one (says-within pairGuess numberGuess (kindNo es i) .so e))))
 
     numbers-are : (d part : ℕ) → numbersBy (sketch es) d part ≡ numbersOf es d part
     numbers-are d part =
@@ -98,15 +96,14 @@ module _ (es : List Entry) where
         let same : lowestOr (length (sketch es)) (guessesBy (sketch es) k) ≡ guessIn es k = rw length-sketch (lowest-same (length es) _ _ (guesses-same k)) in
         rw (same, line-at (guessIn es k)) refl
 
-    values-are : valuesIn (kindNo es) (numbersBy (sketch es)) (length es) ≡ valuesIn (kindIn (sketch es)) (numbersBy (sketch es)) (length (sketch es))
-    values-are j = valuesIn (sym kinds-are j) (numbersBy (sketch es)) (sym length-sketch j)
-
 pub sketched : (es : List Entry) → checkOf es ≡ passed → Sketched es
 sketched es e =
     let w = fine es e in
     record {
       rows = rows-are es w;
-      values = values-in es w (numbersBy (sketch es)) (λ d part h b. numbers-are es w d part) ∙ values-are es w;
+      values =
+          values-in es w (numbersBy (sketch es)) (λ d part h b. numbers-are es w d part)
+          ∙ (λ j. valuesIn (sym (kinds-are es) j) (numbersBy (sketch es)) (sym (length-sketch es) j));
       layout = layout-is es;
       slot-count = length-slots es ∙ ap slotCount (layout-is es);
     }

@@ -1,5 +1,4 @@
 -- The slots of a drawing: where they stand, what they start at, how they are filled, looked up and read out.
-pub mod Around
 pub mod Components
 pub mod Values
 pub mod Fields

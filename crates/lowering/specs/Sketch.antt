@@ -1,10 +1,10 @@
 -- A drawing without its labels: of each record its kind, its third byte, its numbers, and for each label the number that names it. What a drawing
 -- is lowered to is worked out from these lines alone.
 use mathlib.Core.Path.{_≡_}
-use mathlib.Core.Bool.{Bool, _&&_, _||_, cond}
+use mathlib.Core.Bool.{Bool, _||_, cond}
 use mathlib.Core.List.{List, [], _∷_, _++_, map}
-use Prim.Native.Nat.{ℕ, zero, suc, _+_, _*_, _/_}
-use lib.Dec.{ltb, eqb}
+use Prim.Native.Nat.{ℕ, zero, suc, _+_, _*_}
+use lib.Dec.{eqb}
 use lib.ListN.{length, getD}
 use lib.Ieee.{Float, binary64, ofBits}
 use Rattle.ground.specs.Lists.{flat, upTo}
@@ -16,12 +16,12 @@ use Rattle.layout.specs.declared.Arc.{Arc}
 use Rattle.layout.specs.Slots.{Figure, point, circle, arc, slotCount}
 use Rattle.layout.specs.Push.{onward}
 use Rattle.layout.specs.Run.{allComponents}
-use Rattle.record.specs.Kinds.{newPoint, newCircle, newArc, firstRule, lastRule, pairGuess, numberGuess, assigned, a-round}
+use Rattle.record.specs.Kinds.{newPoint, newCircle, newArc, firstRule, lastRule, assigned, a-round}
 use Rattle.record.specs.Entry.{Entry}
 use Rattle.row.specs.Row.{Row}
 use Rattle.names.specs.Labels.{within, lowestOr}
 use Rattle.names.specs.Cut.{knownParts}
-use Rattle.names.specs.Names.{nameFor, recordBy, sortBy, partBy, placeBy}
+use Rattle.names.specs.Names.{nameFor, recordBy, kindBy, guessesAt}
 use Rattle.drawing.specs.Needs.{codeAt}
 use Rattle.drawing.specs.Check.{countBelow}
 use Rattle.lowering.specs.declared.spans.Span.{Span}
@@ -98,10 +98,6 @@ firstBy sk = firstIn (kindIn sk) (length sk)
 
 -- ---- rows
 
--- the kind of the shape that a name is of
-abbrev pub kindBy : ℕ → ℕ
-kindBy name = sortBy name / 8
-
 -- where the center of a shape of a kind stands among its slots, and x or y in a pair
 abbrev pub centerBy : ℕ → ℕ
 centerBy kind = cond (eqb kind newArc) 4 0
@@ -148,9 +144,7 @@ rowsBy next sk = flat (rowIf (firstBy sk) next) sk
 
 -- line i guesses the part whose place is k
 unfoldable pub guessesBy : List Line → ℕ → ℕ → Bool
-guessesBy sk k i =
-    let name = getD (lineAt sk i .names) 0 0 in
-    within pairGuess numberGuess (kindIn sk i) && ((ltb 0 name && ltb (partBy name) knownParts) && eqb (placeBy name) k)
+guessesBy sk k i = guessesAt (kindIn sk i) (getD (lineAt sk i .names) 0 0) k
 
 -- the numbers of the lowest line that guesses a part of the shape that line d declares
 abbrev pub numbersBy : List Line → ℕ → ℕ → ℕ × ℕ

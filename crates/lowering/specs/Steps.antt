@@ -2,12 +2,12 @@
 -- It mirrors the code and need not be read.
 use mathlib.Core.Path.{_≡_}
 use mathlib.Core.Bool.{_||_, cond}
-use mathlib.Core.List.{List}
-use Prim.Native.Nat.{ℕ, zero, suc, _+_, _*_, _≤_, _<_}
+use mathlib.Core.List.{List, [], _∷_, map}
+use Prim.Native.Nat.{ℕ, _+_, _*_, _≤_, _<_}
 use lib.Dec.{ltb, eqb}
 use lib.ListN.{length, getD}
 use lib.Ieee.{Float}
-use Rattle.ground.specs.Lists.{upTo}
+use Rattle.ground.specs.Lists.{flat, upTo}
 use Rattle.refusal.specs.First.{EachBelow, passed}
 use Rattle.layout.specs.declared.Layout.{Layout}
 use Rattle.layout.specs.declared.Pushed.{Pushed}
@@ -15,8 +15,8 @@ use Rattle.layout.specs.declared.Pushed.the-variants as P
 use Rattle.layout.specs.declared.Stepped.{Stepped}
 use Rattle.layout.specs.declared.Stepped.the-variants as S
 use Rattle.layout.specs.Slots.{idsEnd, empty}
-use Rattle.layout.specs.Push.{State, state, over, onward, after}
-use Rattle.layout.specs.Run.{act, done}
+use Rattle.layout.specs.Push.{State, state, over, onward}
+use Rattle.layout.specs.Run.{push, done, act, run}
 use Rattle.record.specs.Record.{mostRecords, labelPlaces}
 use Rattle.record.specs.Kinds.{kindAt, Rule, newPoint, newCircle, newArc}
 use Rattle.record.specs.Decode.{countOf, decodeAt}
@@ -24,12 +24,13 @@ use Rattle.record.specs.Entry.{Entry}
 use Rattle.names.specs.Cut.{knownParts}
 use Rattle.drawing.specs.Check.{checkOf}
 use Rattle.row.specs.Row.{rowBytes, mostIds, encodeRows}
+use Rattle.lowering.specs.declared.shapes.Laid.{Laid}
 use Rattle.lowering.specs.declared.spans.Span.{Span}
 use Rattle.lowering.specs.Slots.{slots, layoutOf, valuesOf}
 use Rattle.lowering.specs.Rows.{rowsOf}
 use Rattle.lowering.specs.Lower.{Room, roomIn, onto}
 use Rattle.lowering.specs.Demand.{Enough}
-use Rattle.lowering.specs.Sketch.{Line, lineAt, manyOf, firstBy, spanAt, idsBy, rowIf, rowsBy, figureOf}
+use Rattle.lowering.specs.Sketch.{Line, manyOf, firstIn, spanAt, idsBy, rowIf, figureOf, ofKind}
 
 -- ---- lines, from records and tables
 
@@ -47,9 +48,14 @@ lineIn records names i =
     let r = decodeAt records i in
     record { kind = r .kind; third = r .third; names = namesAt names (r .kind) i; x = r .x; y = r .y }
 
+-- lines by their numbers, so many
+pub record SketchLines : Type 0 where
+  pub count : ℕ
+  pub line : ℕ → Line
+
 -- all lines
-unfoldable pub sketchIn : List ℕ → List ℕ → List Line
-sketchIn records names = upTo (countOf records) (lineIn records names)
+abbrev pub sketchIn : List ℕ → List ℕ → SketchLines
+sketchIn records names = record { count = countOf records; line = lineIn records names }
 
 -- the numbers of the guess of a part, by the table of guesses
 abbrev pub numbersIn : List ℕ → List ℕ → ℕ → ℕ → ℕ × ℕ
@@ -57,19 +63,22 @@ numbersIn records guesses d part = let g = decodeAt records (getD guesses (d * k
 
 -- ---- pushes
 
+-- a layout and the next id, with the slices
+abbrev pub laidIn : Laid → List ℕ → List Float → State
+laidIn l ids values = state (l .layout) (l .next) ids values
+
 -- the layout after a push
 abbrev pub layoutAfter : Pushed → Layout → Layout
 layoutAfter (P.Good m next) l = m
 layoutAfter (P.Refused r) l = l
 
--- the state after the shape that line i declares is pushed, if it is of a kind
-unfoldable pub pushedAt : (ℕ → ℕ) → (ℕ → ℕ → ℕ × ℕ) → ℕ → ℕ → State → State
-pushedAt kinds numbers kind i s = cond (eqb (kinds i) kind) (after (figureOf (numbers i) kind) s) s
+-- line i, if it is of a kind
+abbrev pub oneOf : (ℕ → ℕ) → ℕ → ℕ → List ℕ
+oneOf kinds kind i = cond (eqb (kinds i) kind) (i ∷ []) []
 
--- the state after those of the first n lines are
-unfoldable pub pushedTo : (ℕ → ℕ) → (ℕ → ℕ → ℕ × ℕ) → ℕ → ℕ → State → State
-pushedTo kinds numbers kind zero s = s
-pushedTo kinds numbers kind (suc n) s = pushedAt kinds numbers kind n (pushedTo kinds numbers kind n s)
+-- the state after the shapes that some lines of a kind declare are pushed
+abbrev pub pushedOf : (ℕ → ℕ → ℕ × ℕ) → ℕ → List ℕ → State → State
+pushedOf numbers kind ds s = run (map push (map (λ d. figureOf (numbers d) kind) ds)) s
 
 -- the layout after `done`
 abbrev pub layoutThen : Stepped → Layout → Layout
@@ -78,7 +87,7 @@ layoutThen (S.Refused r) l = l
 
 -- the state after all shapes of a kind are pushed, at the next stage
 abbrev pub stage : (ℕ → ℕ) → (ℕ → ℕ → ℕ × ℕ) → ℕ → ℕ → State → State
-stage kinds numbers n kind s = act done (pushedTo kinds numbers kind n s)
+stage kinds numbers n kind s = act done (pushedOf numbers kind (ofKind kinds kind n) s)
 
 -- the state after all pushes
 unfoldable pub laid : (ℕ → ℕ) → (ℕ → ℕ → ℕ × ℕ) → ℕ → State → State
@@ -137,17 +146,25 @@ pub record Writing (first : ℕ → ℕ) (next : ℕ) (l : Line) (rows : List �
   pub sayable : SayableIf first next l
   pub room : at + length (bytesIf first next l) ≤ length rows
 
+-- the first slot of the shape that line d declares
+abbrev pub firstsOf : SketchLines → ℕ → ℕ
+firstsOf ls = firstIn (λ i. ls .line i .kind) (ls .count)
+
+-- the bytes of all rows
+abbrev pub bytesBy : ℕ → SketchLines → List ℕ
+bytesBy next ls = flat (bytesIf (firstsOf ls) next) (upTo (ls .count) (ls .line))
+
 -- each line can be said, and there is room for all rows
-pub record Writable (sk : List Line) (next : ℕ) (rows : List ℕ) : Type 0 where
-  pub each : EachBelow (length sk) (λ i. SayableIf (firstBy sk) next (lineAt sk i))
-  pub room : length (encodeRows (rowsBy next sk)) ≤ length rows
+pub record Writable (ls : SketchLines) (next : ℕ) (rows : List ℕ) : Type 0 where
+  pub each : EachBelow (ls .count) (λ i. SayableIf (firstsOf ls) next (ls .line i))
+  pub room : length (bytesBy next ls) ≤ length rows
 
 -- ---- a drawing
 
 -- the layout, ids and values after all pushes, and the rows of all lines
 pub record FilledBy (records names guesses : List ℕ) (next : ℕ) (ids : List ℕ) (values : List Float) (rows : List ℕ) (l : Layout) (ids′ : List ℕ) (values′ : List Float) (rows′ : List ℕ) : Type 0 where
   pub slotted : Slotted (laid (kindsOf records) (numbersIn records guesses) (countOf records) (state empty next ids values)) l ids′ values′
-  pub rows-are : rows′ ≡ onto rows (encodeRows (rowsBy next (sketchIn records names)))
+  pub rows-are : rows′ ≡ onto rows (bytesBy next (sketchIn records names))
 
 -- a drawing that passes, with room for its slots and rows
 pub record Passing (es : List Entry) (next : ℕ) (ids : List ℕ) (values : List Float) (rows : List ℕ) : Type 0 where
@@ -157,9 +174,7 @@ pub record Passing (es : List Entry) (next : ℕ) (ids : List ℕ) (values : Lis
 
 -- its layout, ids, values and rows
 pub record Filled (es : List Entry) (next : ℕ) (ids : List ℕ) (values : List Float) (rows : List ℕ) (l : Layout) (ids′ : List ℕ) (values′ : List Float) (rows′ : List ℕ) : Type 0 where
-  pub layout-is : l ≡ layoutOf es
-  pub ids-are : ids′ ≡ onto ids (onward next (length (slots es)))
-  pub values-are : values′ ≡ onto values (valuesOf es)
+  pub slotted : Slotted (state (layoutOf es) (next + length (slots es)) (onto ids (onward next (length (slots es)))) (onto values (valuesOf es))) l ids′ values′
   pub rows-are : rows′ ≡ onto rows (encodeRows (rowsOf es next))
 
 -- 36, 37 or 38, by how many slots and rows there are, or 0

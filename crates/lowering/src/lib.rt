@@ -17,6 +17,9 @@ use layout::Layout;
 use layout::VARS_PER_ARC;
 use layout::VARS_PER_CIRCLE;
 use layout::VARS_PER_POINT;
+use names::GUESSES;
+use names::NAMES;
+use names::resolve;
 use refusal::Refusal;
 use row::ROW;
 use rules::fill_rows;
@@ -59,8 +62,8 @@ fn lack(next: u32, ids: usize, values: usize, room: usize, slots: usize, rows: u
 // Fills the slots and the rows of a drawing that passes, with room for them.
 fn fill<'a>(
     records: &[u8],
-    names: &'a [u16; 7200],
-    guesses: &'a [u16; 9000],
+    names: &'a [u16; NAMES],
+    guesses: &'a [u16; GUESSES],
     points: usize,
     circles: usize,
     next: u32,
@@ -86,8 +89,10 @@ pub fn lower(
 ) -> Lowered
     ensures { λ r. ⌜ Lowers (entries (now (text .entry)) (now (records .entry))) next (now (ids .entry)) (now (values .entry)) (now (rows .entry)) r (now (ids .exit)) (now (values .exit)) (now (rows .exit)) ⌝ }
 {
-    let judged = judge(text, records);
-    let checked = judged.checked;
+    let mut names = [0u16; NAMES];
+    let mut guesses = [0u16; GUESSES];
+    let resolved = resolve(text, records, &mut names, &mut guesses);
+    let checked = judge(text, records, resolved, &names, &guesses);
     match checked {
         Checked::Refused(r) => Lowered::Refused(r),
         Checked::Passed {
@@ -106,8 +111,8 @@ pub fn lower(
             }
             let layout = fill(
                 records,
-                &judged.names,
-                &judged.guesses,
+                &names,
+                &guesses,
                 points,
                 circles,
                 next,

@@ -3,15 +3,16 @@ ghost use mathlib.Core.Path.{_≡_};
 ghost use Prim.Native.Nat.{_+_, _≤_, _<_};
 ghost use lib.ListN.{length};
 ghost use Rattle.layout.specs.Slots.{idsEnd};
-ghost use Rattle.layout.specs.Push.{over, onward};
+ghost use Rattle.layout.specs.Push.{onward};
 ghost use Rattle.record.specs.Kinds.{table};
 ghost use Rattle.record.specs.Record.{mostRecords};
-ghost use Rattle.row.specs.Row.{mostIds, encodeRow, encodeRows};
+ghost use Rattle.row.specs.Row.{mostIds, encodeRow};
 ghost use Rattle.lowering.specs.Lower.{onto};
-ghost use Rattle.lowering.specs.Sketch.{spanBy, spanIds, idsBy, rowBy, rowsBy};
-ghost use Rattle.lowering.specs.Steps.{namesAt, lineIn, sketchIn, Counted, firstAt, Placeable, Added, Sayable, Begins, bytesIf, Writing, Writable};
+ghost use Rattle.lowering.specs.Sketch.{spanBy, spanIds, idsBy, rowBy};
+ghost use Rattle.lowering.specs.Steps.{namesAt, lineIn, sketchIn, Counted, firstAt, Placeable, Added, Sayable, Begins, bytesIf, Writing, bytesBy, Writable};
 use crate::spans::first_slots;
 use crate::spans::span_of;
+use names::NAMES;
 use names::labels::kind_at;
 use record::MOST;
 use record::PLACES;
@@ -28,21 +29,22 @@ use row::Row;
 use row::encode_row;
 use store::put;
 
-// Puts so many ids, from one on, behind the first m of a row's.
-fn append(out: &mut [u32; 8], m: usize, id: u32, count: usize)
+// Puts so many ids, from one on, behind the first m of a row's, and tells how many they are then.
+fn append(out: &mut [u32; 8], m: usize, id: u32, count: usize) -> usize
     requires { ⌜ (length (now out) ≡ mostIds) × (m + count ≤ mostIds) × (id + count ≤ idsEnd) ⌝ }
-    ensures { λ _. ⌜ now (out .exit) ≡ over (now (out .entry)) m (onward id count) ⌝ }
+    ensures { λ r. ⌜ Added (onward id count) (now (out .entry)) m r (now (out .exit)) ⌝ }
 {
     let mut k = 0;
     while k < count {
         out[m + k] = id + (k as u32);
         k += 1;
     }
+    m + count
 }
 
 // Puts the ids of what a name stands for, by the code of its place and its rule's third byte, behind the first m, and tells how many they are then.
 fn add_name(
-    firsts: &[u16; 1800],
+    firsts: &[u16; MOST],
     next: u32,
     code: u8,
     third: u8,
@@ -55,16 +57,15 @@ fn add_name(
 {
     let s = span_of(code, third, name as usize);
     let shape = s.shape;
-    let id = next + (firsts[shape] as u32) + (s.first as u32);
-    append(out, m, id, s.count);
-    m + s.count
+    let id = next + ((firsts[shape] as u32) + (s.first as u32));
+    append(out, m, id, s.count)
 }
 
 // Puts the ids that rule i names into a row's eight, and tells how many they are.
 fn row_ids(
     kinds: &[[u8; 8]; 26],
-    names: &[u16; 7200],
-    firsts: &[u16; 1800],
+    names: &[u16; NAMES],
+    firsts: &[u16; MOST],
     next: u32,
     kind: u8,
     third: u8,
@@ -89,8 +90,8 @@ fn row_ids(
 fn row_at(
     kinds: &[[u8; 8]; 26],
     records: &[u8],
-    names: &[u16; 7200],
-    firsts: &[u16; 1800],
+    names: &[u16; NAMES],
+    firsts: &[u16; MOST],
     next: u32,
     i: usize,
 ) -> [u8; ROW]
@@ -113,8 +114,8 @@ fn row_at(
 fn write_row(
     kinds: &[[u8; 8]; 26],
     records: &[u8],
-    names: &[u16; 7200],
-    firsts: &[u16; 1800],
+    names: &[u16; NAMES],
+    firsts: &[u16; MOST],
     next: u32,
     i: usize,
     rows: &mut [u8],
@@ -135,14 +136,14 @@ fn write_row(
 // Writes the rows of all rules, in order.
 pub(crate) fn fill_rows(
     records: &[u8],
-    names: &[u16; 7200],
+    names: &[u16; NAMES],
     points: usize,
     circles: usize,
     next: u32,
     rows: &mut [u8],
 )
     requires { ⌜ Counted (now records) points circles × Writable (sketchIn (now records) (now names)) next (now rows) ⌝ }
-    ensures { λ _. ⌜ now (rows .exit) ≡ onto (now (rows .entry)) (encodeRows (rowsBy next (sketchIn (now (records .entry)) (now (names .entry))))) ⌝ }
+    ensures { λ _. ⌜ now (rows .exit) ≡ onto (now (rows .entry)) (bytesBy next (sketchIn (now (records .entry)) (now (names .entry)))) ⌝ }
 {
     let kinds = KINDS;
     let mut firsts = [0u16; MOST];

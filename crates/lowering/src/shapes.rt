@@ -8,8 +8,8 @@ ghost use Rattle.names.specs.Cut.{knownParts};
 ghost use Rattle.layout.specs.Slots.{empty};
 ghost use Rattle.layout.specs.Push.{Push, state, doneOf};
 ghost use Rattle.layout.specs.Steps.{nextAfter};
-ghost use Rattle.lowering.specs.Sketch.{pairOf, circleOf, arcOf, figureOf};
-ghost use Rattle.lowering.specs.Steps.{kindsOf, numbersIn, layoutAfter, pushedAt, pushedTo, layoutThen, stage, laid, Slotted};
+ghost use Rattle.lowering.specs.Sketch.{pairOf, circleOf, arcOf, figureOf, ofKind};
+ghost use Rattle.lowering.specs.Steps.{kindsOf, numbersIn, laidIn, layoutAfter, oneOf, pushedOf, layoutThen, stage, laid, Slotted};
 use bits::from_bits;
 use layout::Arc;
 use layout::Circle;
@@ -17,7 +17,15 @@ use layout::Layout;
 use layout::Point;
 use layout::Pushed;
 use layout::Stepped;
+use names::A;
+use names::B;
+use names::CENTER;
+use names::GUESSES;
+use names::PARTS;
+use names::RADIUS;
+use names::WHOLE;
 use names::labels::kind_at;
+use names::read::wide;
 use record::Record;
 use record::SIZE;
 use record::decode::decode_record;
@@ -25,34 +33,14 @@ use record::kinds::NEW_ARC;
 use record::kinds::NEW_CIRCLE;
 use record::kinds::NEW_POINT;
 
-// The places that the table of guesses has for each record, and the parts.
-const PARTS: usize = 5;
-
-const WHOLE: usize = 0;
-
-const CENTER: usize = 1;
-
-const RADIUS: usize = 2;
-
-const A: usize = 3;
-
-const B: usize = 4;
-
 // A layout and the next id.
 pub(crate) struct Laid {
     pub layout: Layout,
     pub next: u32,
 }
 
-// A number of two bytes.
-fn wide(x: u16) -> usize
-    ensures { λ r. ⌜ r ≡ x ⌝ }
-{
-    x as usize
-}
-
 // The guess of a part of the shape that record i declares.
-fn guess_of(records: &[u8], guesses: &[u16; 9000], i: usize, part: usize) -> Record
+fn guess_of(records: &[u8], guesses: &[u16; GUESSES], i: usize, part: usize) -> Record
     requires { ⌜ (i < mostRecords) × (part < knownParts) ⌝ }
     ensures { λ r. ⌜ r ≡ decodeAt (now (records .entry)) (getD (now (guesses .entry)) (i * knownParts + part) 0) ⌝ }
 {
@@ -60,7 +48,7 @@ fn guess_of(records: &[u8], guesses: &[u16; 9000], i: usize, part: usize) -> Rec
 }
 
 // The pair that a part of it starts at.
-fn pair_of(records: &[u8], guesses: &[u16; 9000], i: usize, part: usize) -> Point
+fn pair_of(records: &[u8], guesses: &[u16; GUESSES], i: usize, part: usize) -> Point
     requires { ⌜ (i < mostRecords) × (part < knownParts) ⌝ }
     ensures { λ r. ⌜ r ≡ pairOf (numbersIn (now (records .entry)) (now (guesses .entry)) i) part ⌝ }
 {
@@ -72,7 +60,7 @@ fn pair_of(records: &[u8], guesses: &[u16; 9000], i: usize, part: usize) -> Poin
 }
 
 // The circle that record i declares, as it starts.
-fn circle_of(records: &[u8], guesses: &[u16; 9000], i: usize) -> Circle
+fn circle_of(records: &[u8], guesses: &[u16; GUESSES], i: usize) -> Circle
     requires { ⌜ i < mostRecords ⌝ }
     ensures { λ r. ⌜ r ≡ circleOf (numbersIn (now (records .entry)) (now (guesses .entry)) i) ⌝ }
 {
@@ -84,7 +72,7 @@ fn circle_of(records: &[u8], guesses: &[u16; 9000], i: usize) -> Circle
 }
 
 // The arc that record i declares, as it starts.
-fn arc_of(records: &[u8], guesses: &[u16; 9000], i: usize) -> Arc
+fn arc_of(records: &[u8], guesses: &[u16; GUESSES], i: usize) -> Arc
     requires { ⌜ i < mostRecords ⌝ }
     ensures { λ r. ⌜ r ≡ arcOf (numbersIn (now (records .entry)) (now (guesses .entry)) i) ⌝ }
 {
@@ -98,7 +86,7 @@ fn arc_of(records: &[u8], guesses: &[u16; 9000], i: usize) -> Arc
 // Pushes the shape of a kind that record i declares.
 fn push_shape(
     records: &[u8],
-    guesses: &[u16; 9000],
+    guesses: &[u16; GUESSES],
     kind: u8,
     i: usize,
     l: Layout,
@@ -139,7 +127,7 @@ fn next_after(p: Pushed, next: u32) -> u32
 // Pushes the shape that record i declares, if it is of a kind.
 fn push_at(
     records: &[u8],
-    guesses: &[u16; 9000],
+    guesses: &[u16; GUESSES],
     kind: u8,
     i: usize,
     last: Laid,
@@ -147,7 +135,7 @@ fn push_at(
     values: &mut [f64],
 ) -> Laid
     requires { ⌜ i < mostRecords ⌝ }
-    ensures { λ r. ⌜ state (r .layout) (r .next) (now (ids .exit)) (now (values .exit)) ≡ pushedAt (kindsOf (now (records .entry))) (numbersIn (now (records .entry)) (now (guesses .entry))) kind i (state (last .layout) (last .next) (now (ids .entry)) (now (values .entry))) ⌝ }
+    ensures { λ r. ⌜ laidIn r (now (ids .exit)) (now (values .exit)) ≡ pushedOf (numbersIn (now (records .entry)) (now (guesses .entry))) kind (oneOf (kindsOf (now (records .entry))) kind i) (laidIn last (now (ids .entry)) (now (values .entry))) ⌝ }
 {
     if kind_at(records, i) != kind {
         return last;
@@ -164,14 +152,14 @@ fn push_at(
 // Pushes the shapes of a kind, in record order.
 fn push_all(
     records: &[u8],
-    guesses: &[u16; 9000],
+    guesses: &[u16; GUESSES],
     kind: u8,
     start: Laid,
     ids: &mut [u32],
     values: &mut [f64],
 ) -> Laid
     requires { ⌜ records-in (now records) ≤ mostRecords ⌝ }
-    ensures { λ r. ⌜ state (r .layout) (r .next) (now (ids .exit)) (now (values .exit)) ≡ pushedTo (kindsOf (now (records .entry))) (numbersIn (now (records .entry)) (now (guesses .entry))) kind (records-in (now (records .entry))) (state (start .layout) (start .next) (now (ids .entry)) (now (values .entry))) ⌝ }
+    ensures { λ r. ⌜ laidIn r (now (ids .exit)) (now (values .exit)) ≡ pushedOf (numbersIn (now (records .entry)) (now (guesses .entry))) kind (ofKind (kindsOf (now (records .entry))) kind (records-in (now (records .entry)))) (laidIn start (now (ids .entry)) (now (values .entry))) ⌝ }
 {
     let n = records.len() / SIZE;
     let mut last = start;
@@ -200,42 +188,22 @@ fn step(l: Laid) -> Laid
 // Pushes the shapes of a kind, and steps to the next stage.
 fn push_stage(
     records: &[u8],
-    guesses: &[u16; 9000],
+    guesses: &[u16; GUESSES],
     kind: u8,
     start: Laid,
     ids: &mut [u32],
     values: &mut [f64],
 ) -> Laid
     requires { ⌜ records-in (now records) ≤ mostRecords ⌝ }
-    ensures { λ r. ⌜ state (r .layout) (r .next) (now (ids .exit)) (now (values .exit)) ≡ stage (kindsOf (now (records .entry))) (numbersIn (now (records .entry)) (now (guesses .entry))) (records-in (now (records .entry))) kind (state (start .layout) (start .next) (now (ids .entry)) (now (values .entry))) ⌝ }
+    ensures { λ r. ⌜ laidIn r (now (ids .exit)) (now (values .exit)) ≡ stage (kindsOf (now (records .entry))) (numbersIn (now (records .entry)) (now (guesses .entry))) (records-in (now (records .entry))) kind (laidIn start (now (ids .entry)) (now (values .entry))) ⌝ }
 {
     step(push_all(records, guesses, kind, start, ids, values))
 }
 
-// Lays out all points, then all circles, then all arcs, from the next id on.
-fn lay(
-    records: &[u8],
-    guesses: &[u16; 9000],
-    next: u32,
-    ids: &mut [u32],
-    values: &mut [f64],
-) -> Laid
-    requires { ⌜ records-in (now records) ≤ mostRecords ⌝ }
-    ensures { λ r. ⌜ state (r .layout) (r .next) (now (ids .exit)) (now (values .exit)) ≡ laid (kindsOf (now (records .entry))) (numbersIn (now (records .entry)) (now (guesses .entry))) (records-in (now (records .entry))) (state empty next (now (ids .entry)) (now (values .entry))) ⌝ }
-{
-    let none = Laid {
-        layout: Layout::new(),
-        next,
-    };
-    let points = push_stage(records, guesses, NEW_POINT, none, ids, values);
-    let circles = push_stage(records, guesses, NEW_CIRCLE, points, ids, values);
-    push_stage(records, guesses, NEW_ARC, circles, ids, values)
-}
-
-// Fills the slots of a drawing, and hands back its layout.
+// Fills the slots of a drawing with all points, then all circles, then all arcs, from the next id on, and hands back its layout.
 pub(crate) fn fill_slots(
     records: &[u8],
-    guesses: &[u16; 9000],
+    guesses: &[u16; GUESSES],
     next: u32,
     ids: &mut [u32],
     values: &mut [f64],
@@ -243,6 +211,12 @@ pub(crate) fn fill_slots(
     requires { ⌜ records-in (now records) ≤ mostRecords ⌝ }
     ensures { λ r. ⌜ Slotted (laid (kindsOf (now (records .entry))) (numbersIn (now (records .entry)) (now (guesses .entry))) (records-in (now (records .entry))) (state empty next (now (ids .entry)) (now (values .entry)))) r (now (ids .exit)) (now (values .exit)) ⌝ }
 {
-    let last = lay(records, guesses, next, ids, values);
+    let none = Laid {
+        layout: Layout::new(),
+        next,
+    };
+    let points = push_stage(records, guesses, NEW_POINT, none, ids, values);
+    let circles = push_stage(records, guesses, NEW_CIRCLE, points, ids, values);
+    let last = push_stage(records, guesses, NEW_ARC, circles, ids, values);
     last.layout
 }

@@ -1,23 +1,21 @@
 // What a name stands for in a row: which slots of a declared shape, and where the shape's slots begin.
 ghost use mathlib.Core.Path.{_≡_};
-ghost use mathlib.Core.Bool.{cond};
 ghost use lib.ListN.{replicate};
 ghost use Rattle.record.specs.Record.{mostRecords};
 ghost use Rattle.record.specs.Decode.{countOf as records-in};
 ghost use Rattle.lowering.specs.Sketch.{sizeBy, spanBy, firstIn};
 ghost use Rattle.lowering.specs.Steps.{kindsOf, Counted, firstAt};
+use names::SORTS;
+use names::STEP;
 use names::labels::kind_at;
+use names::read::either;
+use record::MOST;
 use record::SIZE;
 use record::kinds::ASSIGNED;
 use record::kinds::NEW_ARC;
 use record::kinds::NEW_CIRCLE;
 use record::kinds::NEW_POINT;
 use record::kinds::ROUND;
-
-// A name is (the declaring record) * STEP + (its kind) * SORTS + (the part).
-const STEP: usize = 32;
-
-const SORTS: usize = 8;
 
 // The third byte for y.
 const Y: u8 = 2;
@@ -27,13 +25,6 @@ pub(crate) struct Span {
     pub shape: usize,
     pub first: usize,
     pub count: usize,
-}
-
-// One of two numbers, by a test.
-fn either(test: bool, yes: usize, no: usize) -> usize
-    ensures { λ r. ⌜ r ≡ cond test yes no ⌝ }
-{
-    if test { yes } else { no }
 }
 
 // How many slots a shape of a kind has.
@@ -69,7 +60,7 @@ pub(crate) fn span_of(code: u8, third: u8, name: usize) -> Span
 }
 
 // The first slot of each declared shape: points from 0 on, then circles, then arcs.
-pub(crate) fn first_slots(records: &[u8], points: usize, circles: usize, firsts: &mut [u16; 1800])
+pub(crate) fn first_slots(records: &[u8], points: usize, circles: usize, firsts: &mut [u16; MOST])
     requires { ⌜ Counted (now records) points circles × (now firsts ≡ replicate mostRecords 0) ⌝ }
     ensures { λ _. ⌜ firstAt (now (firsts .exit)) ≡ firstIn (kindsOf (now (records .entry))) (records-in (now (records .entry))) ⌝ }
 {

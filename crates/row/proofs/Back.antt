@@ -7,7 +7,6 @@ use lib.ListN.{length, getD}
 use borrow.Author.Tests.{le-ltb}
 use Rattle.ground.specs.Lists.{upTo}
 use Rattle.ground.proofs.Pieces.{Each, each-of, length-flat, piece-at}
-use Rattle.bytes.specs.Little.{u64}
 use Rattle.bytes.proofs.Little.{number-le}
 use Rattle.ground.proofs.UpTo.{getD-up-to, up-to-list}
 use Rattle.row.specs.Row.{Row, rowBytes, mostIds, eight, held, bytesOf, encodeRow, encodeRows, rowNo, idAt, heldIn, meant, decodeRow, RowFits}
@@ -20,10 +19,6 @@ module _ (r : Row) where
   -- id q of eight
   eight-at : (q : ℕ) → q < mostIds → getD (eight (r .ids)) q 0 ≡ getD (r .ids) q 0
   eight-at q b = getD-up-to mostIds (λ q. getD (r .ids) q 0) q 0 b
-
-  bits-back : r .bits < 2 ^ 64 → u64 (encodeRow r) 36 ≡ r .bits
-  unfolding encodeRow bytesOf
-  bits-back fit = number-le 8 (r .bits) fit
 
   module _ (fits : (q : ℕ) → getD (r .ids) q 0 < 2 ^ 32) where
     ids-back : upTo mostIds (idAt (encodeRow r)) ≡ eight (r .ids)
@@ -38,7 +33,7 @@ module _ (r : Row) where
     pub fields-back : heldIn (encodeRow r) ≡ held r
     unfolding heldIn encodeRow bytesOf
     fields-back =
-        λ i. record { kind = r .kind; third = r .third; count = length (r .ids); ids = ids-back (fits .ids-fit) i; bits = bits-back (fits .bits-fit) i }
+        λ i. record { kind = r .kind; third = r .third; count = length (r .ids); ids = ids-back (fits .ids-fit) i; bits = number-le 8 (r .bits) (fits .bits-fit) i }
 
     pub decode-encode-row : decodeRow (encodeRow r) ≡ r
     unfolding meant

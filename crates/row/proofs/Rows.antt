@@ -1,16 +1,17 @@
 -- The test of rows says what their words say, a loop over rows comes to it, and rows with well formed fields pass it. Assumes nothing.
 use mathlib.Core.Path.{_≡_, refl, sym, ap, _∙_}
-use mathlib.Core.Bool.{Bool, true, false}
+use mathlib.Core.Bool.{true}
 use mathlib.Core.List.{List, [], _∷_}
-use Prim.Native.Nat.{ℕ, zero, suc, _+_, _*_, _/_, _%_, _≤_, _<_}
-use native.Mathlib.Numerals.{add-one}
+use Prim.Native.Nat.{ℕ, _+_, _*_, _/_, _%_, _≤_, _<_}
+use native.Mathlib.Nat.{add-zero}
+use native.Mathlib.Decide.{decLt}
 use native.Mathlib.Omega.{arith}
 use lib.ListN.{length, getD, drop, List·getD-eq-default}
 use lib.Seq.{getD-take, getD-drop}
-use borrow.Author.Tests.{lt-ltb, eq-eqb}
+use borrow.Author.Tests.{lt-ltb}
 use Rattle.ground.proofs.Pieces.{Each, each-at}
-use Rattle.refusal.specs.First.{allBelow, EachBelow}
-use Rattle.refusal.proofs.Says.{Says, says-iff, says-and, says-if, says-all, says-eq, says-le, says-lt, refuted, fails, says-so}
+use Rattle.refusal.specs.First.{EachBelow}
+use Rattle.refusal.proofs.Says.{Says, says-iff, says-and, says-if, says-all, says-eq, says-le, says-lt, says-so}
 use Rattle.bytes.specs.Little.{byte}
 use Rattle.layout.specs.Slots.{sizeOf}
 use Rattle.layout.specs.declared.ShapeKind.the-variants.{Point, Circle, Arc}
@@ -30,13 +31,10 @@ none-for need h = sym (List·getD-eq-default (0 ∷ sizeOf Point ∷ sizeOf Circ
 
 -- no label comes to more than an arc
 few : (need : ℕ) → idsFor need ≤ 6
-few zero = omega arith
-few (suc zero) = omega arith
-few (suc (suc zero)) = omega arith
-few (suc (suc (suc zero))) = omega arith
-few (suc (suc (suc (suc zero)))) = omega arith
-few (suc (suc (suc (suc (suc zero))))) = omega arith
-few (suc (suc (suc (suc (suc (suc n)))))) = omega arith
+few need = elim (decLt need 6) [
+  | yes h ↦ says-all _ _ (λ q. says-le (idsFor q) 6) 6 .so refl need h
+  | no f ↦ omega (arith, none-for need (omega arith))
+]
 
 -- the ids of a label place, by its need in the table as it is lent
 pub by-need : (lent : List (List ℕ)) (kind q need ids : ℕ) → lent ≡ table → q < labelPlaces → need ≡ cell lent kind (needsColumn + q) → ids ≡ idsFor need
@@ -78,38 +76,14 @@ row-there rows i h = rw (lt-ltb i (length rows / rowBytes) h) refl
 
 -- its mark
 pub mark-at : (rows : List ℕ) (i : ℕ) → byte (rowNo rows i) 0 ≡ getD rows (i * rowBytes) 0
-mark-at rows i =
-    let start : i * rowBytes + 0 ≡ i * rowBytes = omega arith in
-    rw (getD-take rowBytes (drop (i * rowBytes) rows) 0 0 (omega arith), getD-drop (i * rowBytes) rows 0 0, start) refl
+mark-at rows i = rw (getD-take rowBytes (drop (i * rowBytes) rows) 0 0 (omega arith), getD-drop, add-zero)
 
 -- ---- the loop
 
-module _ (rows : List ℕ) where
-  -- the first n rows are well formed
-  abbrev pub formedBelow : ℕ → Bool
-  formedBelow n = allBelow n (λ i. rowTest (rowNo rows i))
-
-  says-tested : Says (rowsTest rows) ((length rows % rowBytes ≡ 0) × EachBelow (length rows / rowBytes) (λ i. rowTest (rowNo rows i) ≡ true))
-  unfolding rowsTest
-  says-tested = says-and (says-eq (length rows % rowBytes) 0) (says-all _ _ (λ i. says-so) (length rows / rowBytes))
-
-  -- the last row is not whole
-  pub not-whole : (length rows % rowBytes ≡ 0 → ⊥) → false ≡ rowsTest rows
-  not-whole f = sym (refuted says-tested (λ w. f (w .0)))
-
-  module _ (i : ℕ) where
-    -- a row is not well formed
-    pub bad-row : i < length rows / rowBytes → rowTest (rowNo rows i) ≡ false → false ≡ rowsTest rows
-    bad-row h e = sym (refuted says-tested (λ w. fails says-so e (w .1 i h)))
-
-    pub more-rows : formedBelow i ≡ true → rowTest (rowNo rows i) ≡ true → formedBelow (i + 1) ≡ true
-    more-rows e f = rw (add-one, e, f) refl
-
-    pub all-rows : length rows % rowBytes ≡ 0 → formedBelow i ≡ true → i ≤ length rows / rowBytes → length rows / rowBytes ≤ i → true ≡ rowsTest rows
-    unfolding rowsTest
-    all-rows whole e f g =
-        let all : length rows / rowBytes ≡ i = omega arith in
-        sym (rw (eq-eqb (length rows % rowBytes) 0 whole, all) e)
+-- the test, row by row
+pub says-tested : (rows : List ℕ) → Says (rowsTest rows) ((length rows % rowBytes ≡ 0) × EachBelow (length rows / rowBytes) (λ i. rowTest (rowNo rows i) ≡ true))
+unfolding rowsTest
+says-tested rows = says-and (says-eq (length rows % rowBytes) 0) (says-all _ _ (λ i. says-so) (length rows / rowBytes))
 
 -- ---- rows that are written
 

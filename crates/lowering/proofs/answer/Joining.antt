@@ -1,6 +1,6 @@
 -- What the code leaves, said of the drawing: of records that are laid right, with their names and their guesses, slots and rows are those of a drawing
 -- that is filled. Assumes nothing.
-use mathlib.Core.Path.{_≡_, refl, sym, _∙_}
+use mathlib.Core.Path.{_≡_, refl, sym, _∙_, subst}
 use mathlib.Core.List.{List}
 use Prim.Native.Nat.{ℕ, _+_, _*_, _<_}
 use native.Mathlib.Omega.{arith}
@@ -20,29 +20,15 @@ use Rattle.names.proofs.Drawn.{drawn-length, drawn-at, drawn-kind}
 use Rattle.drawing.specs.Needs.{point, circle}
 use Rattle.lowering.specs.Slots.{slots, howMany, layoutOf, valuesOf}
 use Rattle.lowering.specs.Lower.{onto}
-use Rattle.lowering.specs.Sketch.{sketch, manyOf}
-use Rattle.lowering.specs.Steps.{kindsOf, sketchIn, numbersIn, laid, Counted, Writable, Slotted, FilledBy, Passing, Filled}
+use Rattle.lowering.specs.Sketch.{manyOf}
+use Rattle.lowering.specs.Steps.{kindsOf, sketchIn, numbersIn, laid, Counted, SayableIf, firstsOf, Writable, FilledBy, Passing, Filled}
 use Rattle.lowering.proofs.drawing.Counts.{length-slots}
 use Rattle.lowering.proofs.drawing.Fine.{fine}
 use Rattle.lowering.proofs.slots.Guesses.{numbersOf, values-in}
 use Rattle.lowering.proofs.slots.Pushes.{laid-is}
 use Rattle.lowering.proofs.rows.Bytes.{length-rows}
 use Rattle.lowering.proofs.rows.Tied.{sayable}
-use Rattle.lowering.proofs.rows.Lines.{sketch-in}
-use Rattle.lowering.proofs.Sketched.{length-sketch, line-at, first-are, sketched}
-
--- ---- rows
-
--- the rows of a drawing that passes can be written
-writable : (es : List Entry) (next : ℕ) (ids : List ℕ) (values : List Float) (rows : List ℕ) → Passing es next ids values rows → Writable (sketch es) next rows
-writable es next ids values rows p = record {
-  each = λ i b.
-      let h : i < length es = rw (length-sketch es) at b in
-      rw (line-at es i, first-are es) (λ u. sayable es (fine es (p .passes)) next i h u (p .few) (p .enough .ids-left));
-  room = rw (← sketched es (p .passes) .rows next, length-rows es next) (p .enough .rows-lent);
-}
-
--- ---- slots
+use Rattle.lowering.proofs.rows.Lines.{line-is, first-is, bytes-are}
 
 module _ (text records names guesses : List ℕ) (lay : LaidOut text records) (names-are : names ≡ namesOf (drawn text records)) (guesses-are : guesses ≡ guessesOf (drawn text records)) where
   abbrev es : List Entry
@@ -64,7 +50,12 @@ module _ (text records names guesses : List ℕ) (lay : LaidOut text records) (n
     pub countable : (P C : ℕ) → P ≡ howMany point (drawn text records) → C ≡ howMany circle (drawn text records) → Counted records P C × Writable (sketchIn records names) next rows
     countable P C eP eC = (
       record { few = lay .few; points-are = eP ∙ same 1; circles-are = eC ∙ same 2 },
-      rw (sketch-in text records names lay names-are) (writable es next ids values rows p),
+      record {
+        each = λ i h. subst (SayableIf (firstsOf (sketchIn records names)) next) (sym (line-is text records names lay names-are i h))
+            (rw (first-is text records names lay names-are)
+            (λ u. sayable es (fine es (p .passes)) next i (rw (drawn-length text records) h) u (p .few) (p .enough .ids-left)));
+        room = rw (bytes-are text records names lay names-are (fine es (p .passes)) next, length-rows es next) (p .enough .rows-lent);
+      },
     )
       where
         same : (kind : ℕ) → manyOf (kindNo es) kind (length es) ≡ manyOf (kindsOf records) kind (countOf records)
@@ -82,10 +73,4 @@ module _ (text records names guesses : List ℕ) (lay : LaidOut text records) (n
     pub then-filled : (l : Layout) (ids′ : List ℕ) (values′ : List Float) (rows′ : List ℕ) → FilledBy records names guesses next ids values rows l ids′ values′ rows′
         → Filled (drawn text records) next ids values rows l ids′ values′ rows′
     then-filled l ids′ values′ rows′ f =
-        let s : Slotted (state (layoutOf es) (next + length (slots es)) (onto ids (onward next (length (slots es)))) (onto values (valuesOf es))) l ids′ values′ = rw laid-as at (f .slotted) in
-        record {
-          layout-is = s .layout-is;
-          ids-are = s .ids-are;
-          values-are = s .values-are;
-          rows-are = f .rows-are ∙ rw (sketch-in text records names lay names-are, sketched es (p .passes) .rows next) refl;
-        }
+        record { slotted = rw laid-as at (f .slotted); rows-are = f .rows-are ∙ rw (bytes-are text records names lay names-are (fine es (p .passes)) next) refl }

@@ -1,16 +1,17 @@
 -- The counts of a drawing are the lengths of the lists that its records are picked into: each record adds to both alike. Assumes nothing.
 use mathlib.Core.Path.{_≡_, refl, sym, ap, _∙_}
 use mathlib.Core.Bool.{Bool, true, false, cond}
-use mathlib.Core.List.{List, [], _∷_, _++_, map, map-append}
+use mathlib.Core.List.{List, [], _∷_, map}
 use Prim.Native.Nat.{ℕ, zero, suc, _+_, _*_, _≤_, _<_}
 use native.Mathlib.Nat.{le-refl, add-zero}
 use native.Mathlib.Omega.{arith}
+use native.Mathlib.Decide.{decLt}
 use lib.Dec.{eqb}
-use borrow.Author.Tests.{eqb-true}
+use borrow.Author.Tests.{eq-eqb, ne-eqb}
 use lib.ListN.{length, getD, take, drop, length-append}
-use lib.Seq.{take-length}
+use lib.Seq.{take-length, getD-at}
 use Rattle.ground.specs.Lists.{upTo}
-use Rattle.refusal.proofs.Says.{says-eq}
+use Rattle.refusal.proofs.Says.{says-eq, stable}
 use Rattle.layout.specs.Slots as layout
 use Rattle.layout.proofs.Laws.{can-be}
 use Rattle.layout.specs.Refusals.{impossible}
@@ -26,55 +27,45 @@ use Rattle.drawing.specs.Faults.{Fault}
 use Rattle.drawing.specs.Check.{countBelow, answer, checkOf, checkedOf}
 use Rattle.lowering.specs.Slots.{Slot, slotsOfShape, labelsOf, slotsOf, slots, size, before, howMany, layoutOf}
 use Rattle.lowering.specs.Rows.{rulesOf}
-use Rattle.lowering.specs.Demand.{noSlot, Declares, rulesBefore}
+use Rattle.lowering.specs.Demand.{noSlot, Declares, ComponentOf, rulesBefore}
 use Rattle.lowering.specs.Sketch.{manyOf, ofKind}
 use Rattle.names.proofs.Laws.{within-one}
-use Rattle.ground.proofs.Lists.{either-le}
-use Rattle.ground.proofs.Pieces.{Each, each-append, getD-map, each-of, length-flat, Picks, picks-suc, picks-around}
+use Rattle.drawing.proofs.Laws.{count-le}
+use Rattle.ground.proofs.Pieces.{Each, getD-map, each-of, length-flat, Picks, picks-suc, picks-around}
 
 -- ---- what is picked
 
 pub labels-pick : (s : Shape) → Picks (λ (e : Entry). within (declaring s) (declaring s) (e .kind)) (λ e. labelNo e 0) (labelsOf s)
-labels-pick s = record {
-  none = refl;
-  next = λ e es. ap (λ (b : Bool). cond b (labelNo e 0 ∷ labelsOf s es) (labelsOf s es)) (sym (within-one (declaring s) (e .kind)));
-}
+labels-pick s = record { none = refl; next = λ e es. rw (within-one (declaring s) (e .kind)) refl }
 
 pub rules-pick : Picks (λ (e : Entry). within firstRule lastRule (e .kind)) (λ e. e) rulesOf
 rules-pick = record { none = refl; next = λ e es. refl }
 
 -- ---- how many are picked out of the first n
 
+-- one is picked, or none
+one-or-none : {A : Type 0} (b : Bool) (x : A) → length (cond b (x ∷ []) []) ≡ cond b 1 0
+one-or-none true x = refl
+one-or-none false x = refl
+
 module _ {B : Type 0} (low high : ℕ) (f : Entry → B) (g : List Entry → List B) (picks : Picks (λ (e : Entry). within low high (e .kind)) f g) (es : List Entry) where
   pub picks-count : (n : ℕ) → n ≤ length es → length (g (take n es)) ≡ countBelow (kindNo es) low high n
   unfolding countBelow
   picks-count zero h = ap length (picks .none)
   picks-count (suc n) h =
-      ap length (picks-suc _ f g picks es n noEntry h)
-      ∙ length-append (g (take n es)) (cond (within low high (kindNo es n)) (f (entryAt es n) ∷ []) [])
-      ∙ rw (picks-count n (omega (arith, h))) (go (within low high (kindNo es n)))
-    where
-      go : (b : Bool) → countBelow (kindNo es) low high n + length (cond b (f (entryAt es n) ∷ []) []) ≡ countBelow (kindNo es) low high n + cond b 1 0
-      go true = refl
-      go false = refl
+      rw (picks-suc _ f g picks es n noEntry h, length-append, picks-count n (omega (arith, h)), one-or-none (within low high (kindNo es n)) (f (entryAt es n))) refl
 
   pub picks-all : length (g es) ≡ countBelow (kindNo es) low high (length es)
   picks-all = ap (λ (l : List Entry). length (g l)) (sym (take-length es)) ∙ picks-count (length es) (le-refl (length es))
 
-  -- one that is picked has its count inside
-  pub picks-inside : (i : ℕ) → i < length es → within low high (kindNo es i) ≡ true → countBelow (kindNo es) low high i < length (g es)
-  picks-inside i h e =
-      omega (
-        arith,
-        picks-count i (omega (arith, h)),
-        ap length (picks-around _ f g picks es i noEntry h e),
-        length-append (g (take i es)) (f (entryAt es i) ∷ g (drop (suc i) es)),
-      )
+  -- one that is picked stands at its count
+  module _ (i : ℕ) (h : i < length es) (e : within low high (kindNo es i) ≡ true) where
+    pub picks-inside : countBelow (kindNo es) low high i < length (g es)
+    picks-inside =
+        omega (arith, picks-count i (omega (arith, h)), simp length-append at (ap length (picks-around _ f g picks es i noEntry h e)))
 
-pub count-le : (kinds : ℕ → ℕ) (low high n : ℕ) → countBelow kinds low high n ≤ n
-unfolding countBelow
-count-le kinds low high zero = omega arith
-count-le kinds low high (suc n) = omega (arith, count-le kinds low high n, either-le (within low high (kinds n)) 1 0 1 (omega arith) (omega arith))
+    pub picks-at : (d : B) → getD (g es) (countBelow (kindNo es) low high i) d ≡ f (entryAt es i)
+    picks-at d = rw (picks-around _ f g picks es i noEntry h e) (getD-at (g (take i es)) (f (entryAt es i)) (g (drop (suc i) es)) d _ (picks-count i (omega (arith, h))))
 
 -- ---- those of a kind, by their numbers
 
@@ -82,39 +73,17 @@ module _ (kinds : ℕ → ℕ) (kind : ℕ) where
   pub count-of-kind : (n : ℕ) → length (ofKind kinds kind n) ≡ manyOf kinds kind n
   unfolding ofKind countBelow
   count-of-kind zero = refl
-  count-of-kind (suc n) = rw (length-append, count-of-kind n, within-one kind (kinds n)) (go (eqb (kinds n) kind))
-    where
-      go : (b : Bool) → manyOf kinds kind n + length (cond b (n ∷ []) []) ≡ manyOf kinds kind n + cond b 1 0
-      go true = refl
-      go false = refl
+  count-of-kind (suc n) = rw (length-append, count-of-kind n, within-one kind (kinds n), one-or-none (eqb (kinds n) kind) n) refl
 
-  pub each-of-kind : (m n : ℕ) → n ≤ m → Each (λ d. (d < m) × (kinds d ≡ kind)) (ofKind kinds kind n)
-  unfolding ofKind
-  each-of-kind m zero h = tt
-  each-of-kind m (suc n) h = each-append _ (ofKind kinds kind n) _ (each-of-kind m n (omega (arith, h))) (go (eqb (kinds n) kind) refl)
-    where
-      go : (b : Bool) → eqb (kinds n) kind ≡ b → Each (λ d. (d < m) × (kinds d ≡ kind)) (cond b (n ∷ []) [])
-      go true e = ((h, eqb-true (kinds n) kind e), tt)
-      go false e = tt
-
--- the labels of the declared shapes of a kind are theirs
-module _ (es : List Entry) (s : Shape) where
-  labels-to : (n : ℕ) → n ≤ length es → labelsOf s (take n es) ≡ map (nameNo es) (ofKind (kindNo es) (declaring s) n)
-  unfolding ofKind
-  labels-to zero h = refl
-  labels-to (suc n) h =
-      picks-suc _ _ _ (labels-pick s) es n noEntry h
-      ∙ rw (labels-to n (omega (arith, h)), within-one (declaring s) (kindNo es n), map-append) (go (eqb (kindNo es n) (declaring s)))
-    where
-      before-n : List Label
-      before-n = map (nameNo es) (ofKind (kindNo es) (declaring s) n)
-
-      go : (b : Bool) → before-n ++ cond b (nameNo es n ∷ []) [] ≡ before-n ++ map (nameNo es) (cond b (n ∷ []) [])
-      go true = refl
-      go false = refl
-
-  pub labels-of : labelsOf s es ≡ map (nameNo es) (ofKind (kindNo es) (declaring s) (length es))
-  labels-of = ap (labelsOf s) (sym (take-length es)) ∙ labels-to (length es) (le-refl (length es))
+  -- each number below the count is that of one of them
+  pub one-of-kind : (m n : ℕ) → m < manyOf kinds kind n → (i : ℕ) × (i < n) × (kinds i ≡ kind) × (m ≡ manyOf kinds kind i)
+  unfolding countBelow
+  one-of-kind m zero h = absurd (omega arith)
+  one-of-kind m (suc n) h = elim (decLt m (manyOf kinds kind n)) [
+    | yes b ↦ (let (i, c, is, e) = one-of-kind m n b in (i, omega (arith, c), is, e))
+    | no f ↦ (let is : kinds n ≡ kind = stable (says-eq (kinds n) kind) (λ g. omega (arith, f, rw (within-one kind (kinds n), ne-eqb (kinds n) kind g) at h)) in
+        (n, omega arith, is, omega (arith, f, rw (within-one kind (kinds n), eq-eqb (kinds n) kind is) at h)))
+  ]
 
 -- ---- shapes and rules
 
@@ -125,11 +94,19 @@ module _ (es : List Entry) where
   pub rules-all : length (rulesOf es) ≡ rulesBefore es (length es)
   rules-all = picks-all _ _ _ _ rules-pick es
 
-  -- a declared shape's number is below the count of its kind
-  pub before-inside : (i : ℕ) (s : Shape) → Declares es i s → before s es i < howMany s es
-  before-inside i s d =
-      let e : within (declaring s) (declaring s) (kindNo es i) ≡ true = within-one (declaring s) (kindNo es i) ∙ says-eq (kindNo es i) (declaring s) .back (d .kind-is) in
-      omega (arith, picks-inside _ _ _ _ (labels-pick s) es i (d .inside) e, labels-all s)
+  -- a declared shape's label is picked: its number is below the count of its kind, and its label stands there
+  module _ (i : ℕ) (s : Shape) (d : Declares es i s) where
+    picked : within (declaring s) (declaring s) (kindNo es i) ≡ true
+    picked = within-one (declaring s) (kindNo es i) ∙ says-eq (kindNo es i) (declaring s) .back (d .kind-is)
+
+    pub label-inside : before s es i < length (labelsOf s es)
+    label-inside = picks-inside _ _ _ _ (labels-pick s) es i (d .inside) picked
+
+    pub before-inside : before s es i < howMany s es
+    before-inside = omega (arith, label-inside, labels-all s)
+
+    pub label-at : getD (labelsOf s es) (before s es i) [] ≡ nameNo es i
+    label-at = picks-at _ _ _ _ (labels-pick s) es i (d .inside) picked []
 
 -- ---- slots
 
@@ -139,18 +116,21 @@ length-shape circle l = refl
 length-shape arc l = refl
 
 -- what f makes of them, slot by slot
-pub slots-by : {A : Type 0} (f : Slot → A) (g : ℕ → A) (d : A) (s : Shape) (l : Label) → map f (slotsOfShape s l) ≡ upTo (size s) g → (k : ℕ) → k < size s → f (getD (slotsOfShape s l) k noSlot) ≡ g k
-slots-by f g d s l e k h = sym (getD-map f (slotsOfShape s l) k noSlot d (rw (length-shape s l) h)) ∙ rw e (getD-up-to (size s) g k d h)
+pub slots-by : {A : Type 0} (f : Slot → A) (g : ℕ → A) (d : A) {es : List Entry} {i : ℕ} {s : Shape} {k : ℕ} {t : Slot}
+    → ComponentOf es i s k t → map f (slotsOfShape s (nameNo es i)) ≡ upTo (size s) g → f t ≡ g k
+slots-by f g d {es} {i} {s} {k} c e =
+    let h = c .one-of-it in
+    ap f (c .is) ∙ sym (getD-map f (slotsOfShape s (nameNo es i)) k noSlot d (rw (length-shape s (nameNo es i)) h)) ∙ rw e (getD-up-to (size s) g k d h)
 
 pub at-first : {A : Type 0} (xs : List A) (at : ℕ) (d : A) → getD xs at d ≡ getD xs (at + 0) d
 at-first xs at d = rw add-zero refl
 
-pub length-of : (s : Shape) (es : List Entry) → length (slotsOf s es) ≡ length (labelsOf s es) * size s
-length-of s es = length-flat (slotsOfShape s) (size s) (labelsOf s es) (each-of (λ l. length (slotsOfShape s l) ≡ size s) (labelsOf s es) [] (λ j h. length-shape s _))
+pub lengths : (s : Shape) (ls : List Label) → Each (λ l. length (slotsOfShape s l) ≡ size s) ls
+lengths s ls = each-of (λ l. length (slotsOfShape s l) ≡ size s) ls [] (λ j h. length-shape s _)
 
 module _ (es : List Entry) where
   pub all-of : (s : Shape) → length (slotsOf s es) ≡ howMany s es * size s
-  all-of s = length-of s es ∙ rw (labels-all es s) refl
+  all-of s = length-flat (slotsOfShape s) (size s) (labelsOf s es) (lengths s (labelsOf s es)) ∙ rw (labels-all es s) refl
 
   pub length-slots : length (slots es) ≡ layout.slotCount (layoutOf es)
   unfolding slots
@@ -160,15 +140,16 @@ module _ (es : List Entry) where
   pub slot-count : length (slots es) ≡ 2 * howMany point es + 3 * howMany circle es + 6 * howMany arc es
   slot-count = omega (arith, length-slots)
 
-  -- the layout is a possible one
-  module _ (h : length es ≤ layout.mostShapes) where
-    pub few-of : (s : Shape) → howMany s es ≤ layout.mostShapes
-    few-of s = omega (arith, h, count-le (kindNo es) (declaring s) (declaring s) (length es))
+  -- as few shapes as records
+  pub few-of : {m : ℕ} → length es ≤ m → (s : Shape) → howMany s es ≤ m
+  few-of h s = omega (arith, h, count-le (kindNo es) (declaring s) (declaring s) (length es))
 
-    pub possible : impossible (layoutOf es) ≡ false
-    possible =
-        can-be (layoutOf es)
-        (record { counts = record { points = few-of point; circles = few-of circle; arcs = few-of arc }; circles-late = λ h. omega arith; arcs-late = λ h. omega arith })
+  -- the layout is a possible one
+  pub possible : length es ≤ layout.mostShapes → impossible (layoutOf es) ≡ false
+  possible h =
+      let few = few-of h in
+      can-be (layoutOf es)
+      (record { counts = record { points = few point; circles = few circle; arcs = few arc }; circles-late = λ h. omega arith; arcs-late = λ h. omega arith })
 
 -- ---- from the check's answer
 

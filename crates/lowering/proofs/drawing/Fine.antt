@@ -1,34 +1,32 @@
 -- What a drawing that the check passes is like: each fault that holds nowhere is a fact of it. Assumes nothing.
 use mathlib.Core.Path.{_≡_, refl, sym, ap, _∙_}
 use mathlib.Core.Logic.{inl, inr}
-use mathlib.Core.Bool.{true, true≢false}
+use mathlib.Core.Bool.{false}
 use mathlib.Core.List.{List, [], _∷_, _++_}
-use Prim.Native.Nat.{ℕ, zero, suc, _<_, suc-le-suc}
-use native.Mathlib.Nat.{zero-lt-suc}
+use Prim.Native.Nat.{ℕ, zero, suc, _<_}
 use native.Mathlib.Omega.{arith}
-use lib.ListN.{length, getD}
-use borrow.Author.Tests.{ne-eqb}
-use Rattle.ground.specs.Words.{bytes}
+use lib.ListN.{length}
 use Rattle.refusal.specs.First.{passed, EachBelow, SomeBelow}
 use Rattle.refusal.proofs.Says.{stable}
-use Rattle.text.specs.Text.{isAlphanum}
-use Rattle.record.specs.Kinds.{Kind, newPoint, kindAt, Declaration, Rule, Guess}
+use Rattle.record.specs.Kinds.{kindAt, Declaration, Rule, Guess}
 use Rattle.record.specs.Entry.{Label, Entry, entryAt, labelNo}
-use Rattle.record.specs.Sound.{Sound, Plain}
+use Rattle.record.specs.Sound.{Sound}
 use Rattle.record.specs.Formed.{unsound}
 use Rattle.record.proofs.Agree.{says-sound}
 use Rattle.names.specs.Labels.{kindNo, nameNo}
-use Rattle.names.specs.Cut.{dot, Pointless, partNo, KnownPart}
-use Rattle.names.specs.Names.{nameFor, recordBy, Clear}
-use Rattle.names.proofs.Cut.{part-small}
+use Rattle.names.specs.Cut.{Pointless, partNo, KnownPart}
+use Rattle.names.specs.Names.{nameFor, recordBy, kindBy, Clear}
+use Rattle.names.proofs.Cut.{plain-pointless, part-small}
 use Rattle.names.proofs.Names.{unpacked, name-of}
 use Rattle.drawing.specs.Needs.{Shape, point, circle, arc, declaring, Part, parts, needAt}
 use Rattle.drawing.specs.Faults as faults
 use faults.{Meets, Guessed, AnyUnguessed, malformed, declared-twice, wrong-label, guessed-twice, without-guess}
 use Rattle.drawing.specs.Check.{checkOf}
 use Rattle.drawing.proofs.Agree.{says-meets, says-guessed, check-passes}
+use Rattle.record.proofs.Table.{declared-label}
+use Rattle.drawing.proofs.Numbers.{declares}
 use Rattle.lowering.specs.Demand.{Declares}
-use Rattle.lowering.specs.Sketch.{byKind, kindBy}
+use Rattle.lowering.specs.Sketch.{byKind}
 use Rattle.ground.proofs.Pieces.{Each}
 
 -- records are sound; a label is declared once, and a part guessed once; each rule's labels are what they need to be; each part is guessed
@@ -65,18 +63,17 @@ fine es e =
 -- ---- the kinds that declare
 
 -- the shape that a kind declares
-abbrev pub shapeOf : ℕ → Shape
+abbrev shapeOf : ℕ → Shape
 shapeOf kind = byKind kind point circle arc
 
-pub shape-back : (s : Shape) → shapeOf (declaring s) ≡ s
-shape-back point = refl
-shape-back circle = refl
-shape-back arc = refl
+-- it is the only one, and its label has no point
+shape-back : (s : Shape) → (shapeOf (declaring s) ≡ s) × (kindAt (declaring s) .dotted ≡ false)
+shape-back point = (refl, refl)
+shape-back circle = (refl, refl)
+shape-back arc = (refl, refl)
 
 pub declaration : (s : Shape) (k : ℕ) → k ≡ declaring s → Declaration k
-declaration point k e = (omega arith, omega arith)
-declaration circle k e = (omega arith, omega arith)
-declaration arc k e = (omega arith, omega arith)
+declaration s k e = rw e (declares s)
 
 pub shape-of : (k : ℕ) → Declaration k → (s : Shape) × (k ≡ declaring s)
 shape-of zero d = absurd (omega (arith, d .0))
@@ -85,32 +82,20 @@ shape-of (suc (suc zero)) d = (circle, refl)
 shape-of (suc (suc (suc zero))) d = (arc, refl)
 shape-of (suc (suc (suc (suc k)))) d = absurd (omega (arith, d .1))
 
--- a label is declared by one record
-pub same-record : (es : List Entry) → Fine es → (i i′ : ℕ) (s s′ : Shape) → Declares es i s → Declares es i′ s′ → nameNo es i ≡ nameNo es i′ → i ≡ i′
-same-record es w i i′ s s′ d d′ = w .once i i′ (d .inside) (d′ .inside) (declaration s (kindNo es i) (d .kind-is)) (declaration s′ (kindNo es i′) (d′ .kind-is))
+-- a label is declared by one record, and so as one shape
+pub same-shape : (es : List Entry) → Fine es → (i i′ : ℕ) (s s′ : Shape) → Declares es i s → Declares es i′ s′ → nameNo es i ≡ nameNo es i′ → (i ≡ i′) × (s ≡ s′)
+same-shape es w i i′ s s′ d d′ same =
+    let one = w .once i i′ (d .inside) (d′ .inside) (declaration s (kindNo es i) (d .kind-is)) (declaration s′ (kindNo es i′) (d′ .kind-is)) same in
+    (one, sym (shape-back s .0) ∙ ap shapeOf (sym (d .kind-is) ∙ ap (kindNo es) one ∙ d′ .kind-is) ∙ shape-back s′ .0)
 
 -- ---- labels without a point
 
--- a point is no letter and no digit
-plain-pointless : (l : Label) → EachBelow (length l) (λ k. isAlphanum (getD l k 0) ≡ true) → Pointless l
-plain-pointless [] f = refl
-plain-pointless (b ∷ l) f =
-    let no : (b ≡ dot → ⊥) = λ e. true≢false (sym (f 0 (zero-lt-suc (length l))) ∙ ap isAlphanum e) in
-    rw (ne-eqb b dot no) (ap (λ (k : Label). b ∷ k) (plain-pointless l (λ k h. f (suc k) (suc-le-suc h))))
-
--- a declaration has one label, spelled as a point's
-one-label : (s : Shape) → (kindAt (declaring s) .labels ≡ 1) × (kindAt (declaring s) .dotted ≡ kindAt newPoint .dotted)
-one-label point = (refl, refl)
-one-label circle = (refl, refl)
-one-label arc = (refl, refl)
-
--- so a declared label has none
+-- a declared label has none
 pub pointless : (es : List Entry) → Fine es → (i : ℕ) (s : Shape) → Declares es i s → Pointless (nameNo es i)
 pointless es w i s d =
     let sound = w .sound i (d .inside) in
-    let k = ap kindAt (d .kind-is) in
-    let plain : Plain (nameNo es i) = rw (ap (λ (t : Kind). t .dotted) k ∙ one-label s .1) at (sound .spelled 0 (omega (arith, sound .count, ap (λ (t : Kind). t .labels) k, one-label s .0))) in
-    plain-pointless (nameNo es i) (plain .each)
+    let one = declared-label (kindNo es i) (declaration s (kindNo es i) (d .kind-is)) .0 in
+    plain-pointless (nameNo es i) (rw (d .kind-is, shape-back s .1) at (sound .spelled 0 (omega (arith, sound .count, one))))
 
 -- so names say what labels say
 pub clear : (es : List Entry) → Fine es → Clear es
@@ -118,13 +103,6 @@ clear es w = record {
   once = λ i j b h d d′ same. omega (arith, b, w .once j i (omega (arith, b, h)) h d′ d same);
   pointless = λ j h d. let (s, is) = shape-of (kindNo es j) d in pointless es w j s (record { inside = h; kind-is = is });
 }
-
--- what may stand behind a declared label
-pub whole-known : KnownPart []
-whole-known = record { begins = refl; one = omega arith }
-
-pub center-known : KnownPart (bytes ".center")
-center-known = record { begins = refl; one = omega arith }
 
 -- the name of the label of a declared shape with a known part behind it
 pub name-told : (es : List Entry) → Fine es → (j : ℕ) (s : Shape) → Declares es j s → (suffix l : Label) → KnownPart suffix → nameNo es j ++ suffix ≡ l

@@ -1,16 +1,14 @@
 -- The first slot of each declared shape, by a place for each kind that one shape at a time moves on. Assumes nothing.
 use mathlib.Core.Path.{_≡_, refl, sym, _∙_}
-use mathlib.Core.Bool.{false, true≢false}
+use mathlib.Core.Bool.{false}
 use mathlib.Core.List.{List, [], _∷_}
 use Prim.Native.Nat.{ℕ, zero, suc, _+_, _*_, _≤_, _<_}
 use native.Mathlib.Omega.{arith}
-use native.Mathlib.Decide.{decLt}
 use native.Mathlib.Numerals.{add-one}
 use lib.Dec.{eqb}
 use lib.ListN.{length, getD, set, replicate, length-set}
 use Rattle.ground.proofs.Lists.{either-le}
-use Rattle.refusal.specs.First.{EachBelow}
-use Rattle.refusal.proofs.Says.{refuted}
+use Rattle.refusal.proofs.Says.{refuted, fails}
 use Rattle.record.specs.Kinds.{newPoint, newCircle, newArc, Declaration}
 use Rattle.record.specs.Record.{mostRecords}
 use Rattle.record.specs.Decode.{countOf, decodeAt}
@@ -22,7 +20,7 @@ use Rattle.drawing.specs.Needs.{Shape, point, circle, arc, declaring}
 use Rattle.drawing.specs.Check.{countBelow}
 use Rattle.lowering.specs.Sketch.{sizeBy, manyOf, startBy, firstIn}
 use Rattle.lowering.specs.Steps.{kindsOf, Counted, firstAt}
-use Rattle.lowering.proofs.drawing.Counts.{count-le}
+use Rattle.drawing.proofs.Laws.{count-le}
 use Rattle.lowering.proofs.drawing.Fine.{shape-of}
 
 -- what stands in a list of zeros
@@ -48,10 +46,9 @@ module _ (kinds : ℕ → ℕ) where
   unfolding countBelow
   count-other i k f = rw (add-one, refuted (says-within k k (kinds i)) (λ w. f (omega (arith, w .0, w .1)))) (omega arith)
 
--- the first i records have their first slots, and each kind the place of its next shape
+-- the first i records have their first slots, and those that declare no shape; each kind has the place of its next shape
 pub record Placing (records : List ℕ) (P C : ℕ) (firsts at : List ℕ) (i : ℕ) : Type 0 where
-  pub done : EachBelow i (λ d. getD firsts d 0 ≡ firstIn (kindsOf records) (countOf records) d)
-  pub rest : (d : ℕ) → i ≤ d → getD firsts d 0 ≡ 0
+  pub done : (d : ℕ) → (Declaration (kindsOf records d) → d < i) → getD firsts d 0 ≡ firstIn (kindsOf records) (countOf records) d
   pub places : (k : ℕ) → Declaration k → getD at k 0 ≡ startBy P C k + manyOf (kindsOf records) k i * sizeBy k
   pub at-long : length at ≡ 4
   pub long : length firsts ≡ mostRecords
@@ -61,8 +58,13 @@ module _ (records : List ℕ) (P C : ℕ) (c : Counted records P C) where
   kinds = kindsOf records
 
   pub placing-start : (firsts : List ℕ) → firsts ≡ replicate mostRecords 0 → Placing records P C firsts (0 ∷ 0 ∷ P * 2 ∷ (P * 2 + C * 3) ∷ []) 0
-  unfolding countBelow
-  placing-start firsts e = record { done = λ d h. absurd (omega arith); rest = λ d h. rw e (zeros-at mostRecords d); places = λ k d. let (s, is) = shape-of k d in rw is (of-shape s); at-long = refl; long = rw e refl }
+  unfolding countBelow firstIn
+  placing-start firsts e = record {
+    done = λ d h. rw (refuted (says-within newPoint newArc (kinds d)) (λ u. omega (arith, h u)), e) (zeros-at mostRecords d);
+    places = λ k d. let (s, is) = shape-of k d in rw is (of-shape s);
+    at-long = refl;
+    long = rw e refl;
+  }
     where
       of-shape : (s : Shape) → getD (0 ∷ 0 ∷ P * 2 ∷ (P * 2 + C * 3) ∷ []) (declaring s) 0 ≡ startBy P C (declaring s) + 0 * sizeBy (declaring s)
       of-shape point = refl
@@ -87,8 +89,7 @@ module _ (records : List ℕ) (P C : ℕ) (c : Counted records P C) where
       done = λ m h.
           put firsts i (getD at k 0) m room _
           (λ q. rw (q, ← e, says-within newPoint newArc k .back d, ← c .points-are, ← c .circles-are) (s .places k d))
-          (λ q. s .done m (omega (arith, q)));
-      rest = λ m h. put firsts i (getD at k 0) m room _ (λ q. absurd (omega (arith, q, h))) (λ q. s .rest m (omega arith));
+          (λ q. s .done m (λ u. omega (arith, q, h u)));
       places = λ m b.
           put at k (getD at k 0 + size) m (omega (arith, s .at-long, d .1)) _
           (λ q. rw (q, count-here kinds i k (sym e), es) (omega (arith, s .places k d)))
@@ -99,25 +100,16 @@ module _ (records : List ℕ) (P C : ℕ) (c : Counted records P C) where
 
     -- any other record
     pub placing-skip : (k : ℕ) → k ≡ decodeAt records i .kind → within newPoint newArc k ≡ false → Placing records P C firsts at (i + 1)
-    unfolding firstIn
     placing-skip k e f = record {
-      done = λ m h. elim (decLt m i) [
-        | yes b ↦ s .done m b
-        | no g ↦ (let q : m ≡ i = omega (arith, g, h) in rw (q, ← e, f) (s .rest i (omega arith)))
-      ];
-      rest = λ m h. s .rest m (omega arith);
-      places = λ m b. rw (count-other kinds i m (λ q. true≢false (sym (says-within newPoint newArc m .back b) ∙ rw (e ∙ q) at f))) (s .places m b);
+      done = λ m h. s .done m (λ u. let other : m ≡ i → ⊥ = λ q. none (rw (q, ← e) at u) in omega (arith, h u, other));
+      places = λ m b. rw (count-other kinds i m (λ q. none (rw (e ∙ q) b))) (s .places m b);
       at-long = s .at-long;
       long = s .long;
     }
+      where
+        none : Declaration k → ⊥
+        none = fails (says-within newPoint newArc k) f
 
     -- all of them: past the last there is none
     pub placing-end : countOf records ≤ i → firstAt firsts ≡ firstIn (kindsOf records) (countOf records)
-    unfolding firstIn
-    placing-end h j d = at-each d j
-      where
-        at-each : (d : ℕ) → getD firsts d 0 ≡ firstIn (kindsOf records) (countOf records) d
-        at-each d = elim (decLt d i) [
-          | yes b ↦ s .done d b
-          | no g ↦ rw (← kind-past records d (omega (arith, g, h))) (s .rest d (omega (arith, g)))
-        ]
+    placing-end h j d = s .done d (λ u. let low : countOf records ≤ d → ⊥ = λ g. omega (arith, u .0, kind-past records d g) in omega (arith, h, low)) j

@@ -6,9 +6,7 @@ use native.Mathlib.Omega.{arith}
 use native.Mathlib.Numerals.{add-one}
 use lib.ListN.{length, set, length-set}
 use lib.Seq.{paste, paste-zero, paste-suc, take-length}
-use Rattle.layout.specs.Push.{over, onward}
-use Rattle.lowering.specs.declared.spans.Span.{Span}
-use Rattle.lowering.specs.Sketch.{spanIds}
+use Rattle.layout.specs.Push.{onward}
 use Rattle.lowering.specs.Steps.{Added}
 use Rattle.layout.proofs.Onward.{length-onward, getD-onward}
 
@@ -30,14 +28,7 @@ module _ {d : List ℕ} {m id count : ℕ} where
       long = simp length-set (a .long);
     }
 
-    pub append-end : count ≤ k → out ≡ over d m (onward id count)
+    pub append-end : count ≤ k → Added (onward id count) d m (m + count) out
     append-end h =
         let n : k ≡ length (onward id count) = omega (arith, length-onward id count, a .most) in
-        a .is ∙ rw (n, take-length) refl
-
--- the ids of a span, put behind the first m of a list
-pub added : (first : ℕ → ℕ) (next : ℕ) (s t : Span) → s ≡ t → (m : ℕ) (was now : List ℕ) → now ≡ over was m (onward (next + first (s .shape) + s .first) (s .count))
-    → Added (spanIds first next t) was m (m + s .count) now
-added first next s t e m was now en =
-    let same : next + first (s .shape) + s .first ≡ next + (first (s .shape) + s .first) = omega arith in
-    rw (← e) (record { count-is = rw (length-onward (next + (first (s .shape) + s .first)) (s .count)) refl; list-is = en ∙ rw same refl })
+        record { count-is = rw (length-onward id count) refl; list-is = a .is ∙ rw (n, take-length) refl }

@@ -1,46 +1,26 @@
 -- The rows of a drawing that passes fit their bytes and are well formed, where there are ids enough and each number fits eight bytes. Assumes nothing.
-use mathlib.Core.Path.{_≡_, refl, _∙_}
-use mathlib.Core.Bool.{true}
+use mathlib.Core.Path.{_∙_}
 use mathlib.Core.List.{List}
 use Prim.Native.Nat.{ℕ, _+_, _^_, _≤_, _<_}
-use native.Mathlib.Decide.{decLt}
 use native.Mathlib.Omega.{arith}
-use lib.Dec.{eqb}
 use lib.ListN.{length, getD, List·getD-eq-default}
-use borrow.Author.Tests.{eqb-true}
-use Rattle.ground.proofs.Pieces.{Each, each-at, each-map, map-each, picks-each}
-use Rattle.refusal.proofs.Says.{says-all, says-so}
+use Rattle.ground.proofs.Pieces.{Each, each-map, map-each, picks-each}
 use Rattle.layout.specs.Slots.{idsEnd}
-use Rattle.record.specs.Kinds.{firstRule, lastRule, Rule}
+use Rattle.record.specs.Kinds.{firstRule, lastRule}
 use Rattle.record.specs.Entry.{Entry, noEntry, entryAt}
 use Rattle.ground.proofs.UpTo.{getD-up-to}
 use Rattle.names.specs.Labels.{kindNo}
 use Rattle.names.proofs.Laws.{says-within}
 use Rattle.row.specs.Row.{Row, held, mostIds, encodeRows, RowFits}
-use Rattle.row.specs.Formed.{idsOf, FieldsFormed, RowsFormed}
+use Rattle.row.specs.Formed.{FieldsFormed, RowsFormed}
 use Rattle.row.proofs.Rows.{written-formed}
 use Rattle.lowering.specs.Slots.{slots}
 use Rattle.lowering.specs.Rows.{rowFor, rulesOf, rowsOf}
-use Rattle.lowering.specs.Offsets.{idsOfKind}
 use Rattle.lowering.proofs.drawing.Counts.{rules-pick}
 use Rattle.lowering.proofs.drawing.Fine.{Fine}
-use Rattle.lowering.proofs.rows.Bytes.{ids-given}
-use Rattle.lowering.proofs.rows.Labels.{ids-count, ids-few}
-
--- a kind's labels come to as many ids as its row has: one computed test
-ids-of-kind : (k : ℕ) → Rule k → idsOfKind k ≡ idsOf k
-unfolding idsOf
-ids-of-kind k u = eqb-true _ _ (says-all (λ n. eqb (idsOfKind n) (idsOf n)) (λ n. eqb (idsOfKind n) (idsOf n) ≡ true) (λ n. says-so) 24 .so refl k (omega (arith, u .1)))
+use Rattle.lowering.proofs.rows.Labels.{ids-count, ids-few, ids-given}
 
 module _ (es : List Entry) (w : Fine es) (next : ℕ) (left : next + length (slots es) ≤ idsEnd) (x-fits : (i : ℕ) → i < length es → entryAt es i .x < 2 ^ 64) where
-  id-fits : (e : Entry) (q : ℕ) → getD (rowFor es next e .ids) q 0 < 2 ^ 32
-  id-fits e q =
-      let ids = rowFor es next e .ids in
-      elim (decLt q (length ids)) [
-        | yes b ↦ omega (arith, each-at _ ids 0 (ids-given es next e left) q b)
-        | no f ↦ omega (arith, List·getD-eq-default ids 0 {n = q} (omega (arith, f)))
-      ]
-
   each-row : Each (λ (r : Row). RowFits r × FieldsFormed (held r)) (rowsOf es next)
   unfolding rowsOf
   each-row =
@@ -49,10 +29,10 @@ module _ (es : List Entry) (w : Fine es) (next : ℕ) (left : next + length (slo
       (λ j h t.
       let u = says-within firstRule lastRule (kindNo es j) .so t in
       let ids = rowFor es next (entryAt es j) .ids in (
-        record { few = ids-few es w next j h u; ids-fit = λ q. id-fits (entryAt es j) q; bits-fit = x-fits j h },
+        record { few = ids-few es w j h u next; ids-fit = λ q. omega (arith, ids-given es w j h u next left q); bits-fit = x-fits j h },
         record {
           rule = u;
-          count = ids-count es w next j h u ∙ ids-of-kind (kindNo es j) u;
+          count = ids-count es w j h u next;
           third = w .sound j h .third;
           unused = λ q b f. getD-up-to mostIds (λ q. getD ids q 0) q 0 b ∙ List·getD-eq-default ids 0 {n = q} f;
           no-number = w .sound j h .no-x;

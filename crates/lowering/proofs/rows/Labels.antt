@@ -2,213 +2,205 @@
 -- ids it comes to. Assumes nothing.
 use mathlib.Core.Path.{_≡_, refl, sym, _∙_}
 use mathlib.Core.Logic.{inl, inr}
-use mathlib.Core.Bool.{Bool, true, false, not, _&&_, _||_, true≢false}
+use mathlib.Core.Bool.{Bool, true, not, _&&_}
 use mathlib.Core.List.{List, [], _∷_, _++_, append-nil}
-use Prim.Native.Nat.{ℕ, zero, suc, _+_, _≤_, _<_}
+use Prim.Native.Nat.{ℕ, _+_, _-_, _≤_, _<_}
+use native.Mathlib.Decide.{decLt}
+use native.Mathlib.Nat.{le-refl, zero-add}
 use native.Mathlib.Omega.{arith}
-use lib.Dec.{eqb, ltb, leb}
-use lib.ListN.{length}
-use borrow.Author.Tests.{eqb-true, le-ltb, leb-true}
+use lib.Dec.{eqb}
+use lib.ListN.{List·getD-eq-default, length, getD}
 use Rattle.ground.specs.Words.{bytes}
-use Rattle.refusal.specs.First.{allBelow}
-use Rattle.refusal.proofs.Says.{refuted, says-so, says-and, says-not, says-all}
+use Rattle.ground.specs.Lists.{flat, sumTo}
+use Rattle.ground.proofs.Lists.{all, and-first, and-second}
+use Rattle.ground.proofs.Pieces.{Each, each-at, each-of, each-has, each-flat, sum-flat}
+use Rattle.refusal.specs.First.{EachBelow, SomeBelow}
+use Rattle.refusal.proofs.Says.{Says, refuted, says-so, says-and, says-not, says-eq, says-le, says-lt, says-if, says-unless, says-all}
+use Rattle.layout.specs.Slots.{idsEnd}
 use Rattle.layout.specs.Push.{onward}
-use Rattle.layout.proofs.Onward.{length-onward}
-use Rattle.record.specs.Kinds.{kindAt, Rule, firstRule, fixComponent, fixCenter}
+use Rattle.layout.proofs.Onward.{length-onward, getD-onward}
+use Rattle.record.specs.Kinds.{kindAt, Rule, firstRule}
 use Rattle.record.specs.Entry.{Label, Entry, entryAt, labelNo}
-use Rattle.record.specs.Sound.{Sound}
 use Rattle.names.specs.Labels.{kindNo, nameNo, same}
 use Rattle.names.specs.Cut.{KnownPart}
 use Rattle.names.specs.Names.{nameFor}
 use Rattle.names.proofs.Laws.{says-same}
-use Rattle.drawing.specs.Needs as needs
-use needs.{Shape, point, circle, arc, Need, codeAt, needAt}
+use Rattle.drawing.specs.Needs.{Shape, point, Choice, Need, codeAt, needAt}
 use Rattle.drawing.specs.Faults.{Named, Meets}
-use Rattle.ground.specs.Lists.{flat}
-use Rattle.lowering.specs.Slots.{slots, size, firstSlot}
 use Rattle.row.specs.Row.{mostIds}
-use Rattle.lowering.specs.Rows.{part, namingOf, names, idsWhere, namedIds}
-use Rattle.lowering.specs.Offsets.{componentAt, widthOf, widthAt, idsOfKind}
-use Rattle.lowering.specs.Demand.{slotAt, Declares, Carries}
-use Rattle.ground.proofs.Pieces.{sum-flat}
+use Rattle.row.specs.Formed.{idsFor, idsAt, idsOf}
+use Rattle.lowering.specs.declared.spans.Span.{Span}
+use Rattle.lowering.specs.Slots.{Slot, slots, size, firstSlot}
+use Rattle.lowering.specs.Rows.{Naming, whole, part, center, namingOf, names, namedIds}
+use Rattle.lowering.specs.Demand.{slotAt, Declares, NamesSlot, Carries}
 use Rattle.lowering.specs.Sketch.{oneSlot, spanBy}
-use Rattle.lowering.proofs.drawing.Fine.{Fine, whole-known, name-told}
-use Rattle.lowering.proofs.ids.Tested.{ids-named, ids-has, ids-rise}
-use Rattle.lowering.proofs.ids.Named.{sizes, says-names, PairPart, pair-known, the-point, circle-center, arc-center, XY, the-x, the-y, stands, ids-whole, ids-part}
+use Rattle.lowering.proofs.drawing.Fine.{Fine, name-told}
+use Rattle.lowering.proofs.slots.Components.{slot-of}
+use Rattle.lowering.proofs.ids.Tested.{ids-in-row, each-onward, has-onward}
+use Rattle.lowering.proofs.ids.Named.{sizes, says-names, pairPart, pair-known, XY, stands, Among, whole-meant, part-meant}
 
 -- ---- what the table needs
 
--- the label of one shape, as it stands
-abbrev bare : Need → Bool
-bare [] = false
-bare (c ∷ []) = same (c .suffix) []
-bare (c ∷ d ∷ cs) = false
+-- a label that a place takes is that of a shape, whose slots are all named; or of a pair, or of a shape with a center, of which x or y is named
+abbrev takes : Naming → ℕ → Choice → Bool
+takes whole code c = (not (oneSlot code) && eqb (idsFor code) (size (c .shape))) && same (c .suffix) []
+takes part code c = (oneSlot code && eqb (idsFor code) 1) && same (c .suffix) (pairPart (c .shape))
+takes center code c = (oneSlot code && eqb (idsFor code) 1) && (same (c .suffix) [] && same (pairPart (c .shape)) (bytes ".center"))
 
--- but for kinds 4 and 18, a rule's labels are so, and their codes tell all slots of a shape: one computed test of the table
-abbrev bareAt : ℕ → ℕ → Bool
-bareAt k q = bare (needAt k q) && not (oneSlot (codeAt k q))
+-- each place of each rule is so; where one slot is named the third byte is x or y; and no rule comes to more than eight ids
+abbrev Fits : ℕ → Type 0
+Fits k =
+    EachBelow (kindAt k .labels) (λ q. (all (takes (namingOf k) (codeAt k q)) (needAt k q) ≡ true) × (oneSlot (codeAt k q) ≡ true → kindAt k .thirds ≡ 2))
+    × ((sumTo (idsAt k) (kindAt k .labels) ≡ idsOf k) × (idsOf k ≤ mostIds))
 
-abbrev bareKind : ℕ → Bool
-bareKind k = ltb k firstRule || ((eqb k fixComponent || eqb k fixCenter) || allBelow (kindAt k .labels) (bareAt k))
+-- one computed test
+rule-fits : (k : ℕ) → Rule k → Fits k
+unfolding idsOf
+rule-fits k u =
+    says-all _ (λ k. (k < firstRule → ⊥) → Fits k)
+    (λ k. says-unless (says-lt _ _)
+    (says-and (says-all _ _ (λ q. says-and says-so (says-if says-so (says-eq _ _))) (kindAt k .labels)) (says-and (says-eq _ _) (says-le _ _))))
+    24 .so refl k (omega (arith, u .1)) (λ l. omega (arith, u .0, l))
 
-bare-kind : (k : ℕ) → Rule k → (eqb k fixComponent || eqb k fixCenter) ≡ false → (q : ℕ) → q < kindAt k .labels → bareAt k q ≡ true
-bare-kind k u a =
-    let t : bareKind k ≡ true = says-all bareKind (λ n. bareKind n ≡ true) (λ n. says-so) 24 .so refl k (omega (arith, u .1)) in
-    says-all (bareAt k) (λ q. bareAt k q ≡ true) (λ q. says-so) (kindAt k .labels) .so (rw (le-ltb k firstRule (u .0), a) at t)
-
--- no rule comes to more than eight ids: one computed test
-abbrev fewIds : ℕ → Bool
-fewIds k = leb (idsOfKind k) mostIds
-
-pub few-ids : (k : ℕ) → Rule k → idsOfKind k ≤ mostIds
-few-ids k u = leb-true (idsOfKind k) mostIds (says-all fewIds (λ n. fewIds n ≡ true) (λ n. says-so) 24 .so refl k (omega (arith, u .1)))
-
--- the shape that is declared where such a label is met
-abbrev BareMet : List Entry → Need → Label → Type 0
-BareMet es n l = (j : ℕ) × (s : Shape) × Declares es j s × (nameNo es j ≡ l) × (size s ≡ widthOf n)
-
-bare-met : (es : List Entry) (n : Need) (l : Label) → bare n ≡ true → Meets es n l → BareMet es n l
-bare-met es [] l b m = absurd m
-bare-met es (c ∷ []) l b (inl (j, h, (k, q))) =
-    let e : c .suffix ≡ [] = says-same (c .suffix) [] .so b in
-    (j, c .shape, record { inside = h; kind-is = k }, sym (append-nil (nameNo es j)) ∙ rw e at q, refl)
-bare-met es (c ∷ []) l b (inr m) = absurd m
-bare-met es (c ∷ d ∷ cs) l b m = absurd (true≢false (sym b))
+-- one of the labels that a place takes is met
+choice : (es : List Entry) (l : Label) (p : Choice → Bool) (n : Need) → all p n ≡ true → Meets es n l → (c : Choice) × (p c ≡ true) × Named es (c .shape) (c .suffix) l
+choice es l p [] a m = absurd m
+choice es l p (c ∷ cs) a (inl m) = (c, and-first (p c) (all p cs) a, m)
+choice es l p (c ∷ cs) a (inr m) = choice es l p cs (and-second (p c) (all p cs) a) m
 
 -- ---- a label of a rule, worked out
 
--- label q of the rule e names so many slots, from a first one on, of the shape that a record declares: its name tells them, and their ids are meant
-pub record WorkedOut (es : List Entry) (next : ℕ) (e : Entry) (q : ℕ) : Type 0 where
-  pub at : ℕ
+-- label q of the rule e names the slots of a span, which are some of those of a declared shape, and no other
+pub record WorkedOut (es : List Entry) (e : Entry) (q : ℕ) (t : Span) : Type 0 where
   pub shape : Shape
-  pub declared : Declares es at shape
-  pub first : ℕ
-  pub count : ℕ
-  pub some : 0 < count
-  pub inside : first + count ≤ size shape
-  pub wide : count ≡ widthAt (e .kind) q
-  pub span : spanBy (codeAt (e .kind) q) (e .third) (nameFor es (labelNo e q)) ≡ record { shape = at; first = first; count = count }
-  pub ids-are : namedIds es next e (labelNo e q) ≡ onward (next + (firstSlot shape es at + first)) count
+  pub declared : Declares es (t .shape) shape
+  pub some : 0 < t .count
+  pub inside : t .first + t .count ≤ size shape
+  pub wide : t .count ≡ idsAt (e .kind) q
+  pub meant : (j : ℕ) → j < length (slots es)
+      → Says (names (namingOf (e .kind)) (e .third) (labelNo e q) (slotAt es j)) (Among (firstSlot shape es (t .shape) + t .first) (t .count) j)
+
+-- the span that its name tells
+abbrev pub spanOf : List Entry → Entry → ℕ → Span
+spanOf es e q = spanBy (codeAt (e .kind) q) (e .third) (nameFor es (labelNo e q))
+
+module _ {es : List Entry} {e : Entry} {q : ℕ} {t : Span} (k : WorkedOut es e q t) where
+  pub reach : firstSlot (k .shape) es (t .shape) + t .first + t .count ≤ length (slots es)
+  reach = omega (arith, k .some, slot-of es (t .shape) (k .shape) (t .first + t .count - 1) (k .declared) (omega (arith, k .some, k .inside)) .0)
+
+  pub ids-are : (next : ℕ) → namedIds es next e (labelNo e q) ≡ onward (next + (firstSlot (k .shape) es (t .shape) + t .first)) (t .count)
+  unfolding namedIds
+  ids-are next = ids-in-row (names (namingOf (e .kind)) (e .third) (labelNo e q)) next _ (t .count) (slots es) reach (k .meant)
 
 -- a third byte from 1 to 2
 xy : (a : ℕ) → a ≤ 2 → 0 < a → XY a
-xy zero h g = absurd (omega (arith, g))
-xy (suc zero) h g = the-x
-xy (suc (suc zero)) h g = the-y
-xy (suc (suc (suc a))) h g = absurd (omega (arith, h))
+xy a h g = elim (decLt a 2) [
+  | yes b ↦ inl (omega (arith, b))
+  | no f ↦ inr (omega (arith, f))
+]
 
-module _ (es : List Entry) (w : Fine es) (next : ℕ) (e : Entry) where
+module _ (es : List Entry) (w : Fine es) (e : Entry) (q : ℕ) where
   -- the x or y of a point or a center
-  module _ (s : Shape) (u : Label) (p : PairPart s u) (o : XY (e .third)) where
-    parted : (j q : ℕ) → Declares es j s → 1 ≡ widthAt (e .kind) q → oneSlot (codeAt (e .kind) q) ≡ true → (v : Label) → KnownPart v → nameNo es j ++ v ≡ labelNo e q
-        → namedIds es next e (labelNo e q) ≡ idsWhere (names part (e .third) (nameNo es j ++ u)) next (slots es) → WorkedOut es next e q
-    unfolding spanBy
-    parted j q d one code v k name ids =
-        let (at, kind) = name-told es w j s d v (labelNo e q) k name in
-        record {
-          at = j;
-          shape = s;
-          declared = d;
-          first = componentAt s u (e .third);
-          count = 1;
-          some = omega arith;
-          inside = omega (arith, stands p o .inside);
-          wide = one;
-          span = rw (code, at, kind, stands p o .place) refl;
-          ids-are = ids ∙ ids-part es w j s d next (e .third) p o;
-        }
-
-    at-part : e .kind ≡ fixComponent → Named es s u (labelNo e 0) → WorkedOut es next e 0
-    unfolding namedIds
-    at-part k (j, h, (d, name)) = parted j 0 (record { inside = h; kind-is = d }) (rw k refl) (rw k refl) u (pair-known p) name (rw (k, ← name) refl)
-
-    at-center : u ≡ bytes ".center" → e .kind ≡ fixCenter → Named es s [] (labelNo e 0) → WorkedOut es next e 0
-    unfolding namedIds
-    at-center c k (j, h, (d, q)) =
-        let name : labelNo e 0 ≡ nameNo es j = sym q ∙ append-nil (nameNo es j) in
-        parted j 0 (record { inside = h; kind-is = d }) (rw k refl) (rw k refl) [] whole-known q (rw (k, name, c) refl)
-
-  fixed-part : e .kind ≡ fixComponent → XY (e .third) → Meets es (needAt fixComponent 0) (labelNo e 0) → WorkedOut es next e 0
-  fixed-part k o (inl m) = at-part point [] the-point o k m
-  fixed-part k o (inr (inl m)) = at-part circle (bytes ".center") circle-center o k m
-  fixed-part k o (inr (inr (inl m))) = at-part arc (bytes ".center") arc-center o k m
-  fixed-part k o (inr (inr (inr m))) = absurd m
-
-  fixed-center : e .kind ≡ fixCenter → XY (e .third) → Meets es (needAt fixCenter 0) (labelNo e 0) → WorkedOut es next e 0
-  fixed-center k o (inl m) = at-center circle (bytes ".center") circle-center o refl k m
-  fixed-center k o (inr (inl m)) = at-center arc (bytes ".center") arc-center o refl k m
-  fixed-center k o (inr (inr m)) = absurd m
-
-  -- kinds 4 and 18 have one label, and a third byte for x or y
-  fixed : (k q : ℕ) → kindAt k .labels ≡ 1 → kindAt k .thirds ≡ 2 → (e .kind ≡ k → XY (e .third) → Meets es (needAt k 0) (labelNo e 0) → WorkedOut es next e 0)
-      → e .kind ≡ k → Sound e → q < kindAt (e .kind) .labels → Meets es (needAt (e .kind) q) (labelNo e q) → WorkedOut es next e q
-  fixed k zero one two f is s h m =
-      let t : kindAt (e .kind) .thirds ≡ 2 = rw is two in
-      f is (xy (e .third) (omega (arith, t, s .third .0)) (s .third .1 (omega (arith, t)))) (rw is at m)
-  fixed k (suc q) one two f is s h m = absurd (omega (arith, one, rw is at h))
-
-  -- all slots of a shape
-  wholly : (q : ℕ) → eqb (e .kind) fixComponent ≡ false → eqb (e .kind) fixCenter ≡ false → oneSlot (codeAt (e .kind) q) ≡ false → BareMet es (needAt (e .kind) q) (labelNo e q) → WorkedOut es next e q
-  unfolding spanBy namedIds
-  wholly q a b code (j, s, d, name, wide) =
-      let none : firstSlot s es j + 0 ≡ firstSlot s es j = omega arith in
-      let (at, kind) = name-told es w j s d [] (labelNo e q) whole-known (append-nil (nameNo es j) ∙ name) in
-      record {
-        at = j;
+  parted : (j : ℕ) (s : Shape) (v : Label) → Declares es j s → KnownPart v → nameNo es j ++ v ≡ labelNo e q → XY (e .third)
+      → (oneSlot (codeAt (e .kind) q) ≡ true) × (idsAt (e .kind) q ≡ 1)
+      → ((t : Slot) → names (namingOf (e .kind)) (e .third) (labelNo e q) t ≡ names part (e .third) (nameNo es j ++ pairPart s) t) → WorkedOut es e q (spanOf es e q)
+  unfolding spanBy
+  parted j s v d known name o (one, wide) means =
+      let (at, kind) = name-told es w j s d v (labelNo e q) known name in
+      rw (one, at, kind)
+      (record {
         shape = s;
         declared = d;
-        first = 0;
-        count = size s;
-        some = sizes s .0;
-        inside = omega arith;
-        wide = wide ∙ rw (a, b) refl;
-        span = rw (code, at, kind, sizes s .2) refl;
-        ids-are = rw (a, b, ← name, none) (ids-whole es w j s d next (e .third));
-      }
+        some = omega arith;
+        inside = omega (arith, stands s (e .third) o .0);
+        wide = sym wide;
+        meant = λ i b. rw (means (slotAt es i)) (part-meant es w j s d (e .third) i b o);
+      })
 
-  worked : (q : ℕ) → Sound e → Rule (e .kind) → q < kindAt (e .kind) .labels → Meets es (needAt (e .kind) q) (labelNo e q) → WorkedOut es next e q
-  worked q s u h m = go (eqb (e .kind) fixComponent) refl (eqb (e .kind) fixCenter) refl
-    where
-      go : (a : Bool) → eqb (e .kind) fixComponent ≡ a → (b : Bool) → eqb (e .kind) fixCenter ≡ b → WorkedOut es next e q
-      go true a b f = fixed fixComponent q refl refl fixed-part (eqb-true (e .kind) fixComponent a) s h m
-      go false a true f = fixed fixCenter q refl refl fixed-center (eqb-true (e .kind) fixCenter f) s h m
-      go false a false f =
-          let b = says-and says-so (says-not says-so) .so (bare-kind (e .kind) u (rw (a, f) refl) q h) in
-          wholly q a f (refuted says-so (b .1)) (bare-met es (needAt (e .kind) q) (labelNo e q) (b .0) m)
+  by-naming : (n : Naming) → namingOf (e .kind) ≡ n → (c : Choice) → takes n (codeAt (e .kind) q) c ≡ true → (oneSlot (codeAt (e .kind) q) ≡ true → XY (e .third))
+      → Named es (c .shape) (c .suffix) (labelNo e q) → WorkedOut es e q (spanOf es e q)
+  unfolding spanBy
+  by-naming whole is c t o (j, h, (k, name)) =
+      let ((many, wide), bare) = says-and (says-and (says-not {b = oneSlot (codeAt (e .kind) q)} says-so) (says-eq _ _)) (says-same (c .suffix) []) .so t in
+      let d : Declares es j (c .shape) = record { inside = h; kind-is = k } in
+      let (at, kind) = name-told es w j (c .shape) d (c .suffix) (labelNo e q) (rw bare (pair-known point)) name in
+      let own : labelNo e q ≡ nameNo es j = sym name ∙ rw bare (append-nil (nameNo es j)) in
+      rw (refuted says-so many, at, kind, sizes (c .shape) .1)
+      (record {
+        shape = c .shape;
+        declared = d;
+        some = sizes (c .shape) .0;
+        inside = rw (zero-add (size (c .shape))) (le-refl (size (c .shape)));
+        wide = sym wide;
+        meant = λ i b. rw (is, own) (whole-meant es w j (c .shape) d (e .third) i b);
+      })
+  by-naming part is c t o (j, h, (k, name)) =
+      let (one, pair) = says-and (says-and says-so (says-eq _ _)) (says-same (c .suffix) (pairPart (c .shape))) .so t in
+      parted j (c .shape) (c .suffix) (record { inside = h; kind-is = k }) (rw pair (pair-known (c .shape))) name (o (one .0)) one (λ t. rw (is, ← name, pair) refl)
+  by-naming center is c t o (j, h, (k, name)) =
+      let (one, (bare, pair)) =
+      says-and (says-and says-so (says-eq _ _)) (says-and (says-same (c .suffix) []) (says-same (pairPart (c .shape)) (bytes ".center"))) .so t in
+      parted j (c .shape) (c .suffix) (record { inside = h; kind-is = k }) (rw bare (pair-known point)) name (o (one .0)) one
+      (λ t. rw (is, ← name, bare, append-nil, pair) refl)
 
 -- ---- a rule of a fine drawing
 
-module _ (es : List Entry) (w : Fine es) (next i : ℕ) (h : i < length es) (u : Rule (kindNo es i)) where
+module _ (es : List Entry) (w : Fine es) (i : ℕ) (h : i < length es) (u : Rule (kindNo es i)) where
   abbrev e : Entry
   e = entryAt es i
 
-  pub label-count : length (e .labels) ≡ kindAt (e .kind) .labels
-  label-count = w .sound i h .count
-
   -- each of its labels is worked out
-  pub worked-out : (q : ℕ) → q < kindAt (kindNo es i) .labels → WorkedOut es next (entryAt es i) q
-  worked-out q g = worked es w next e q (w .sound i h) u g (w .met i h u q g)
+  pub worked-out : (q : ℕ) → q < length (entryAt es i .labels) → WorkedOut es (entryAt es i) q (spanOf es (entryAt es i) q)
+  worked-out q b =
+      let s = w .sound i h in
+      let g : q < kindAt (e .kind) .labels = rw (s .count) at b in
+      let (takes-each, due) = rule-fits (e .kind) u .0 q g in
+      let (c, t, m) = choice es (labelNo e q) (takes (namingOf (e .kind)) (codeAt (e .kind) q)) (needAt (e .kind) q) takes-each (w .met i h u q g) in
+      by-naming es w e q (namingOf (e .kind)) refl c t (λ one. xy (e .third) (omega (arith, due one, s .third .0)) (s .third .1 (omega (arith, due one)))) m
 
-  -- it has as many ids as the table tells, and eight at most
-  pub ids-count : length (flat (namedIds es next e) (e .labels)) ≡ idsOfKind (e .kind)
-  ids-count =
-      sum-flat (namedIds es next e) (widthAt (e .kind)) (e .labels) []
-      (λ q g. let k = worked-out q (rw label-count at g) in rw (k .ids-are, length-onward _ (k .count)) (k .wide))
-      ∙ rw label-count refl
+  module _ (next : ℕ) where
+    -- it has as many ids as the table tells, and eight at most
+    pub ids-count : length (flat (namedIds es next (entryAt es i)) (entryAt es i .labels)) ≡ idsOf (kindNo es i)
+    ids-count =
+        sum-flat (namedIds es next e) (idsAt (e .kind)) (e .labels) []
+        (λ q g. let k = worked-out q g in rw (ids-are k next, length-onward _ (spanOf es e q .count)) (k .wide))
+        ∙ rw (w .sound i h .count) (rule-fits (e .kind) u .1 .0)
 
-  pub ids-few : length (flat (namedIds es next (entryAt es i)) (entryAt es i .labels)) ≤ mostIds
-  ids-few = rw ids-count (few-ids (kindNo es i) u)
+    pub ids-few : length (flat (namedIds es next (entryAt es i)) (entryAt es i .labels)) ≤ mostIds
+    ids-few = rw ids-count (rule-fits (kindNo es i) u .1 .1)
 
-  -- those of a label are exactly the ids of the slots that it names
-  pub carries : (q : ℕ) → q < length (entryAt es i .labels) → Carries es next (entryAt es i) (labelNo (entryAt es i) q) (namedIds es next (entryAt es i) (labelNo (entryAt es i) q))
-  unfolding namedIds
-  carries q g =
-      let l = labelNo e q in
-      let p = names (namingOf (e .kind)) (e .third) l in
-      let k = worked-out q (rw label-count at g) in
-      record {
-        some = rw (k .ids-are, length-onward _ (k .count)) (k .some);
-        named = λ n m. let (j, b, (k, t)) = ids-named p next (slots es) n m in (j, b, (k, says-names (namingOf (e .kind)) (e .third) l (slotAt es j) .so t));
-        all = λ j b n. ids-has p next (slots es) j b (says-names (namingOf (e .kind)) (e .third) l (slotAt es j) .back n) (next + j) refl;
-        rising = ids-rise p next (slots es);
-      }
+    -- they are given ones
+    pub ids-given : next + length (slots es) ≤ idsEnd → (q : ℕ) → getD (flat (namedIds es next (entryAt es i)) (entryAt es i .labels)) q 0 < idsEnd
+    ids-given left q =
+        let ids = flat (namedIds es next e) (e .labels) in
+        let each : Each (λ (n : ℕ). n < idsEnd) ids =
+        each-flat (namedIds es next e) (λ (l : Label). Each (λ (n : ℕ). n < idsEnd) (namedIds es next e l)) (λ (n : ℕ). n < idsEnd) (λ l a. a) (e .labels)
+        (each-of _ (e .labels) []
+        (λ q g. let k = worked-out q g in rw (ids-are k next) (each-onward (λ (n : ℕ). n < idsEnd) _ (spanOf es e q .count) (λ n a b. omega (arith, left, reach k))))) in
+        elim (decLt q (length ids)) [
+          | yes b ↦ each-at (λ (n : ℕ). n < idsEnd) ids 0 each q b
+          | no f ↦ rw (List·getD-eq-default ids 0 {n = q} (omega (arith, f))) (omega arith)
+        ]
+
+    -- those of a label are exactly the ids of the slots that it names
+    pub carries : (q : ℕ) → q < length (entryAt es i .labels)
+        → Carries es next (entryAt es i) (labelNo (entryAt es i) q) (namedIds es next (entryAt es i) (labelNo (entryAt es i) q))
+    carries q g =
+        let k = worked-out q g in
+        let n = spanOf es e q .count in
+        let at = next + (firstSlot (k .shape) es (spanOf es e q .shape) + spanOf es e q .first) in
+        let says : (j : ℕ) → Says (names (namingOf (e .kind)) (e .third) (labelNo e q) (slotAt es j)) (NamesSlot es e (labelNo e q) j) =
+        λ j. says-names (namingOf (e .kind)) (e .third) (labelNo e q) (slotAt es j) in
+        rw (ids-are k next)
+        (record {
+          some = rw (length-onward at n) (k .some);
+          named = λ m. each-has (λ m. SomeBelow (length (slots es)) (λ j. (m ≡ next + j) × NamesSlot es e (labelNo e q) j)) (onward at n) m
+              (each-onward _ at n (λ m a b.
+              let j = m - next in
+              let c : j < length (slots es) = omega (arith, reach k) in
+              (j, c, (omega arith, says j .so (k .meant j c .back (omega arith, omega arith))))));
+          all = λ j b m. let r = k .meant j b .so (says j .back m) in has-onward at n (next + j) (omega (arith, r .0)) (omega (arith, r .1));
+          rising = λ a b l g.
+              let c : b < n = rw (length-onward at n) at g in
+              rw (getD-onward at n a (omega arith), getD-onward at n b c) (omega arith);
+        })

@@ -2,7 +2,7 @@
 -- and the slots that are worked out for it. Assumes nothing.
 use mathlib.Core.Path.{_≡_, refl, _∙_}
 use mathlib.Core.List.{List, [], _∷_, map}
-use Prim.Native.Nat.{ℕ, suc, _+_, _-_, _≤_, _<_, suc-le-suc}
+use Prim.Native.Nat.{ℕ, suc, _+_, _≤_, _<_, suc-le-suc}
 use native.Mathlib.Nat.{zero-lt-suc}
 use native.Mathlib.Omega.{arith}
 use lib.ListN.{length, getD, length-map}
@@ -18,11 +18,10 @@ use Rattle.drawing.specs.Needs.{Shape, point, circle, arc}
 use Rattle.lowering.specs.Slots.{slots, firstSlot}
 use Rattle.lowering.specs.Rows.{namedIds}
 use Rattle.lowering.specs.Demand.{Declares}
-use Rattle.lowering.specs.Sketch.{firstIn, spanAt, spanIds, idsBy}
+use Rattle.lowering.specs.Sketch.{firstIn, spanAt, idsBy}
 use Rattle.lowering.specs.Steps.{Sayable}
 use Rattle.lowering.proofs.drawing.Fine.{Fine}
-use Rattle.lowering.proofs.slots.Components.{slot-of}
-use Rattle.lowering.proofs.rows.Labels.{WorkedOut, worked-out, label-count, ids-few}
+use Rattle.lowering.proofs.rows.Labels.{WorkedOut, spanOf, worked-out, ids-are, reach, ids-few}
 
 -- by the places of a list
 flat-places : {A B : Type 0} (f : A → List B) (g : ℕ → List B) (d : A) (xs : List A) (h : ℕ → ℕ) → ((q : ℕ) → q < length xs → f (getD xs q d) ≡ g (h q)) → flat f xs ≡ flat g (upTo (length xs) h)
@@ -40,25 +39,19 @@ module _ (es : List Entry) (w : Fine es) (next i : ℕ) (h : i < length es) (u :
   abbrev e : Entry
   e = entryAt es i
 
-  abbrev names : List ℕ
-  names = map (nameFor es) (e .labels)
-
-  abbrev first : ℕ → ℕ
-  first = firstIn (kindNo es) (length es)
-
   module _ (q : ℕ) (g : q < length (e .labels)) where
-    work : WorkedOut es next e q
-    work = worked-out es w next i h u q (rw (label-count es w next i h u) at g)
+    work : WorkedOut es e q (spanOf es e q)
+    work = worked-out es w i h u q g
 
-    span-is : spanAt (e .kind) (e .third) names q ≡ record { shape = work .at; first = work .first; count = work .count }
-    span-is = rw (getD-map (nameFor es) (e .labels) q [] 0 g) (work .span)
+    span-is : spanAt (e .kind) (e .third) (map (nameFor es) (e .labels)) q ≡ spanOf es e q
+    span-is = rw (getD-map (nameFor es) (e .labels) q [] 0 g) refl
 
   pub ids-same : flat (namedIds es next (entryAt es i)) (entryAt es i .labels) ≡ idsBy (firstIn (kindNo es) (length es)) next (kindNo es i) (entryAt es i .third) (map (nameFor es) (entryAt es i .labels))
   unfolding idsBy
   ids-same =
       rw (length-map (e .labels) (nameFor es))
-      (flat-places (namedIds es next e) (λ q. spanIds first next (spanAt (e .kind) (e .third) names q)) [] (e .labels) (λ q. q)
-      (λ q g. work q g .ids-are ∙ rw (span-is q g, first-is es (work q g .at) (work q g .shape) (work q g .declared)) refl))
+      (flat-places (namedIds es next e) _ [] (e .labels) (λ q. q)
+      (λ q g. ids-are (work q g) next ∙ rw (span-is q g, first-is es (spanOf es e q .shape) (work q g .shape) (work q g .declared)) refl))
 
   pub sayable : length es ≤ mostRecords → next + length (slots es) ≤ idsEnd
       → Sayable (firstIn (kindNo es) (length es)) next (kindNo es i) (entryAt es i .third) (map (nameFor es) (entryAt es i .labels))
@@ -69,8 +62,7 @@ module _ (es : List Entry) (w : Fine es) (next i : ℕ) (h : i < length es) (u :
         rw (span-is q g)
         (record {
           inside = omega (arith, few, k .declared .inside);
-          fits = rw (first-is es (k .at) (k .shape) (k .declared))
-              (omega (arith, left, k .some, slot-of es w (k .at) (k .shape) (k .first + k .count - 1) (k .declared) (omega (arith, k .some, k .inside)) .0));
+          fits = rw (first-is es (spanOf es e q .shape) (k .shape) (k .declared)) (omega (arith, left, reach k));
         });
-    few = rw (← ids-same) (ids-few es w next i h u);
+    few = rw (← ids-same) (ids-few es w i h u next);
   }

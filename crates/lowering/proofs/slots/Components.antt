@@ -1,123 +1,139 @@
--- The slots of a fine drawing are the components of its declared shapes, one for one: a slot's label tells the shape, and its place in the shape
--- the component. Assumes nothing.
-use mathlib.Core.Path.{_≡_, refl, sym, ap, _∙_, subst}
-use mathlib.Core.List.{List, _++_, map, append-assoc}
-use Prim.Native.Nat.{ℕ, _+_, _-_, _≤_, _<_}
+-- The slots of a fine drawing are the components of its declared shapes, one for one: by the counts each slot is a component of a shape, and a slot's
+-- label tells the shape. Assumes nothing.
+use mathlib.Core.Path.{_≡_, refl, sym, ap, _∙_}
+use mathlib.Core.List.{List, [], _++_, map, append-assoc, append-nil}
+use Prim.Native.Nat.{ℕ, _+_, _-_, _*_, _/_, _%_, _<_}
 use native.Mathlib.Omega.{arith}
-use lib.ListN.{length, getD, length-append, List·getD-append}
-use lib.Seq.{getD-append-add}
+use native.Mathlib.Decide.{decLt}
+use lib.ListN.{length, getD, take, drop, length-append}
+use lib.Seq.{getD-append-add, getD-take, getD-drop}
 use Rattle.ground.specs.Lists.{upTo}
 use Rattle.refusal.specs.First.{EachBelow}
+use Rattle.layout.specs.Slots.{kindStart, slotOf}
 use Rattle.record.specs.Entry.{Label, Entry}
 use Rattle.names.specs.Labels.{kindNo, nameNo}
-use Rattle.drawing.specs.Needs.{Shape, point, circle, arc}
-use Rattle.lowering.specs.Slots.{Slot, slotsOfShape, slots, size, firstSlot}
+use Rattle.names.specs.Cut.{stem}
+use Rattle.drawing.specs.Needs.{Shape, point, circle, arc, declaring}
+use Rattle.lowering.specs.Slots.{Slot, slot, slotsOfShape, labelsOf, slotsOf, slots, size, before, howMany, kindFor, layoutOf, firstSlot}
 use Rattle.lowering.specs.Offsets.{componentAt}
 use Rattle.lowering.specs.Demand.{noSlot, slotAt, Declares, ComponentOf, OneComponent}
-use Rattle.ground.proofs.Pieces.{Each, each-of, each-at}
-use Rattle.lowering.proofs.drawing.Counts.{length-shape, slots-by}
-use Rattle.lowering.proofs.drawing.Fine.{Fine, shapeOf, shape-back, same-record}
-use Rattle.lowering.proofs.slots.Around.{Other, around, each-slot, each-of-all, each-own}
+use Rattle.ground.proofs.Pieces.{Each, each-at, piece-at}
+use Rattle.lowering.proofs.drawing.Counts.{one-of-kind, label-inside, before-inside, label-at, length-shape, lengths, slots-by, all-of, length-slots}
+use Rattle.lowering.proofs.drawing.Fine.{Fine, same-shape}
 
--- ---- each slot is a component of a declared shape
+-- ---- the components of one shape
 
-abbrev Component : List Entry → Slot → Type 0
-Component es t = (i : ℕ) × (s : Shape) × (k : ℕ) × ComponentOf es i s k t
+-- what holds of a shape's label, whatever stands behind it, holds of its slots
+pub each-own : (Q : Slot → Type 0) (s : Shape) (l : Label) → ((u : Label) (a : ℕ) → stem u ≡ [] → Q (slot l u a)) → (k : ℕ) → k < size s
+    → Q (getD (slotsOfShape s l) k noSlot)
+each-own Q s l f k h = each-at Q (slotsOfShape s l) noSlot (all s) k (rw (length-shape s l) h)
+  where
+    all : (s : Shape) → Each Q (slotsOfShape s l)
+    all point = (f _ _ refl, (f _ _ refl, tt))
+    all circle = (f _ _ refl, (f _ _ refl, (f _ _ refl, tt)))
+    all arc = (f _ _ refl, (f _ _ refl, (f _ _ refl, (f _ _ refl, (f _ _ refl, (f _ _ refl, tt))))))
 
-module _ (es : List Entry) where
-  components : Each (Component es) (slots es)
-  components =
-      each-of-all (Component es) es
-      (λ s. each-slot (λ (l : Label). (i : ℕ) × Declares es i s × (nameNo es i ≡ l)) (Component es) s es
-      (λ l d. each-of (Component es) (slotsOfShape s l) noSlot
-      (λ k h. (d .0, s, k, record { declared = d .1; one-of-it = rw (length-shape s l) at h; is = rw (d .2) refl })))
-      (λ j d. (j, d, refl)))
+-- a component has its shape's label
+pub label-of : (es : List Entry) (i : ℕ) (s : Shape) (k : ℕ) (t : Slot) → ComponentOf es i s k t → t .shape ≡ nameNo es i
+label-of es i s k t c = rw (c .is) (each-own (λ (z : Slot). z .shape ≡ nameNo es i) s (nameNo es i) (λ u a b. refl) k (c .one-of-it))
 
-  pub component-at : EachBelow (length (slots es)) (λ j. (i : ℕ) × (s : Shape) × (k : ℕ) × ComponentOf es i s k (slotAt es j))
-  component-at j h = each-at (Component es) (slots es) noSlot components j h
-
--- ---- the components of one shape differ: each tells its place
-
+-- they differ: each tells its place
 places-told : (s : Shape) (l : Label) → map (λ (t : Slot). componentAt s (t .suffix) (t .axis)) (slotsOfShape s l) ≡ upTo (size s) (λ k. k)
 places-told point l = refl
 places-told circle l = refl
 places-told arc l = refl
 
-pub place-told : (s : Shape) (l : Label) (k : ℕ) → k < size s → componentAt s (getD (slotsOfShape s l) k noSlot .suffix) (getD (slotsOfShape s l) k noSlot .axis) ≡ k
-place-told s l = slots-by (λ (t : Slot). componentAt s (t .suffix) (t .axis)) (λ k. k) 0 s l (places-told s l)
-
-one-place : (s : Shape) (l : Label) (a b : ℕ) → a < size s → b < size s → getD (slotsOfShape s l) a noSlot ≡ getD (slotsOfShape s l) b noSlot → a ≡ b
-one-place s l a b h g e = sym (place-told s l a h) ∙ ap (λ (t : Slot). componentAt s (t .suffix) (t .axis)) e ∙ place-told s l b g
-
--- a component has its shape's label
-pub label-of : (es : List Entry) (i : ℕ) (s : Shape) (k : ℕ) (t : Slot) → ComponentOf es i s k t → t .shape ≡ nameNo es i
-label-of es i s k t c =
-    let l = nameNo es i in
-    ap (λ (z : Slot). z .shape) (c .is)
-    ∙ each-at (λ (z : Slot). z .shape ≡ l) (slotsOfShape s l) noSlot (each-own (λ (z : Slot). z .shape ≡ l) s l (λ u a b. refl)) k (subst (λ (n : ℕ). k < n) (sym (length-shape s l)) (c .one-of-it))
+pub place-told : (es : List Entry) (i : ℕ) (s : Shape) (k : ℕ) (t : Slot) → ComponentOf es i s k t → componentAt s (t .suffix) (t .axis) ≡ k
+place-told es i s k t c = slots-by (λ (t : Slot). componentAt s (t .suffix) (t .axis)) (λ k. k) 0 c (places-told s (nameNo es i))
 
 -- ---- a slot and its component
 
-module _ (es : List Entry) (w : Fine es) where
+module _ (es : List Entry) where
+  -- the slots of a kind stand behind those of the kinds before it
+  of-kinds : (s : Shape) → (front : List Slot) × (rest : List Slot) × (slots es ≡ front ++ (slotsOf s es ++ rest)) × (length front ≡ kindStart (kindFor s) (layoutOf es))
+  unfolding slots
+  of-kinds point = ([], slotsOf circle es ++ slotsOf arc es, refl, refl)
+  of-kinds circle = (slotsOf point es, slotsOf arc es, refl, all-of es point)
+  of-kinds arc = (slotsOf point es ++ slotsOf circle es, [], simp (append-assoc, append-nil), simp length-append (omega (arith, all-of es point, all-of es circle)))
+
+  slot-inside : (i : ℕ) (s : Shape) (k : ℕ) → k < size s → before s es i < howMany s es → firstSlot s es i + k < length (slots es)
+  slot-inside i point k g h = omega (arith, length-slots es)
+  slot-inside i circle k g h = omega (arith, length-slots es)
+  slot-inside i arc k g h = omega (arith, length-slots es)
+
   -- component k of the shape that record i declares is the slot firstSlot + k
+  component-of : (i : ℕ) (s : Shape) (k : ℕ) → Declares es i s → k < size s → ComponentOf es i s k (slotAt es (firstSlot s es i + k))
+  component-of i s k d g =
+      let (front, rest, is, long) = of-kinds s in
+      let m = before s es i * size s in
+      let at : firstSlot s es i + k ≡ length front + (m + k) = omega (arith, long) in
+      let own : take (size s) (drop m (slotsOf s es ++ rest)) ≡ slotsOfShape s (nameNo es i) =
+      piece-at (slotsOfShape s) (size s) (labelsOf s es) rest [] (lengths s (labelsOf s es)) (before s es i) (label-inside es i s d)
+      ∙ ap (slotsOfShape s) (label-at es i s d) in
+      record {
+        declared = d;
+        one-of-it = g;
+        is =
+            rw (at, is, getD-append-add front _ (m + k) noSlot, ← getD-drop m (slotsOf s es ++ rest) k noSlot)
+            (rw (← getD-take (size s) (drop m (slotsOf s es ++ rest)) k noSlot g, own) refl);
+      }
+
   pub slot-of : (i : ℕ) (s : Shape) (k : ℕ) → Declares es i s → k < size s
       → (firstSlot s es i + k < length (slots es)) × ComponentOf es i s k (slotAt es (firstSlot s es i + k))
-  slot-of i s k d g =
-      let a = around es w i s d in
-      let l = nameNo es i in
-      let own = slotsOfShape s l in
-      let n : k < length own = subst (λ (m : ℕ). k < m) (sym (length-shape s l)) g in (
-        rw (a .is) (omega (arith, n, a .place, length-append (a .front) (own ++ a .rest), length-append own (a .rest))),
+  slot-of i s k d g = (slot-inside i s k g (before-inside es i s d), component-of i s k d g)
+
+  -- and each slot is one
+  abbrev pub At : ℕ → Type 0
+  At j = (i : ℕ) × (s : Shape) × (k : ℕ) × ComponentOf es i s k (slotAt es j) × (j ≡ firstSlot s es i + k)
+
+  at-kind : (j : ℕ) (s : Shape) (m k : ℕ) → m < howMany s es → k < size s → j ≡ slotOf (kindFor s) (layoutOf es) m + k → At j
+  at-kind j s m k h g e =
+      let (i, b, is, number) = one-of-kind (kindNo es) (declaring s) m (length es) h in
+      let here : j ≡ firstSlot s es i + k = rw (← number) e in
+      (i, s, k, rw here (component-of i s k (record { inside = b; kind-is = is }) g), here)
+
+  pub component-at : EachBelow (length (slots es)) At
+  component-at j h =
+      let P = howMany point es in
+      let C = howMany circle es in
+      elim (decLt j (P * 2)) [
+        | yes b ↦ at-kind j point (j / 2) (j % 2) (omega (arith, b)) (omega arith) (omega arith)
+        | no f ↦ elim (decLt j (P * 2 + C * 3)) [
+          | yes b ↦ at-kind j circle ((j - P * 2) / 3) ((j - P * 2) % 3) (omega (arith, b, f)) (omega arith) (omega (arith, f))
+          | no g ↦ at-kind j arc ((j - (P * 2 + C * 3)) / 6) ((j - (P * 2 + C * 3)) % 6) (omega (arith, g, h, length-slots es)) (omega arith) (omega (arith, g))
+        ]
+      ]
+
+  module _ (w : Fine es) where
+    -- a slot is one component only
+    only-one : (t : Slot) (i i′ : ℕ) (s s′ : Shape) (k k′ : ℕ) → ComponentOf es i s k t → ComponentOf es i′ s′ k′ t → (i ≡ i′) × (s ≡ s′) × (k ≡ k′)
+    only-one t i i′ s s′ k k′ c c′ =
+        let (one, shapes) = same-shape es w i i′ s s′ (c .declared) (c′ .declared) (sym (label-of es i s k t c) ∙ label-of es i′ s′ k′ t c′) in
+        (one, shapes, sym (place-told es i s k t c) ∙ rw shapes (place-told es i′ s′ k′ t c′))
+
+    -- a component's place
+    pub place-is : (i : ℕ) (s : Shape) (k j : ℕ) → j < length (slots es) → ComponentOf es i s k (slotAt es j) → j ≡ firstSlot s es i + k
+    place-is i s k j h c =
+        let (i′, s′, k′, c′, here) = component-at j h in
+        let (one, shapes, places) = only-one (slotAt es j) i i′ s s′ k k′ c c′ in
+        rw (one, shapes, places) here
+
+    pub one-component : EachBelow (length (slots es)) (OneComponent es)
+    one-component j h =
+        let (i, s, k, c, here) = component-at j h in
         record {
-          declared = d;
-          one-of-it = g;
-          is = rw (← (a .place), a .is, getD-append-add (a .front) (own ++ a .rest) k noSlot) (List·getD-append own (a .rest) noSlot k n);
-        },
-      )
+          declaring-record = i;
+          shape = s;
+          component = k;
+          this = c;
+          here = here;
+          no-other = λ i′ s′ k′ c′. only-one (slotAt es j) i′ i s′ s k′ k c′ c;
+        }
 
-  pub own-slot : (i : ℕ) (s : Shape) (j : ℕ) → Declares es i s → firstSlot s es i ≤ j → j < firstSlot s es i + size s → ComponentOf es i s (j - firstSlot s es i) (slotAt es j)
-  own-slot i s j d h g =
-      let e : firstSlot s es i + (j - firstSlot s es i) ≡ j = omega arith in
-      rw e at (slot-of i s (j - firstSlot s es i) d (omega arith) .1)
-
-  -- and a slot with that shape's label is one of them
-  pub slot-is : (i : ℕ) (s : Shape) (j : ℕ) → Declares es i s → j < length (slots es) → slotAt es j .shape ≡ nameNo es i → (k : ℕ) × (k < size s) × (j ≡ firstSlot s es i + k)
-  slot-is i s j d h q =
-      let a = around es w i s d in
-      let l = nameNo es i in
-      let own = slotsOfShape s l in
-      let low : j < length (a .front) → ⊥ = λ b. each-at (Other l) (a .front) noSlot (a .not-before) j b (rw (a .is, List·getD-append (a .front) (own ++ a .rest) noSlot j b) at q) in
-      let high : length (a .front ++ own) ≤ j → ⊥ = λ b.
-      let m = j - length (a .front ++ own) in
-      let e : j ≡ length (a .front ++ own) + m = omega (arith, b) in
-      let is : slots es ≡ (a .front ++ own) ++ a .rest = a .is ∙ sym (append-assoc (a .front) own (a .rest)) in
-      let here : slotAt es j ≡ getD (a .rest) m noSlot = ap (slotAt es) e ∙ rw is (getD-append-add (a .front ++ own) (a .rest) m noSlot) in
-      each-at (Other l) (a .rest) noSlot (a .not-behind) m (omega (arith, h, e, ap length is, length-append (a .front ++ own) (a .rest))) (rw here at q) in
-      (j - firstSlot s es i, omega (arith, low, high, a .place, length-append (a .front) own, length-shape s l), omega (arith, low, a .place))
-
-  -- a component's place
-  pub place-is : (i : ℕ) (s : Shape) (k j : ℕ) → j < length (slots es) → ComponentOf es i s k (slotAt es j) → j ≡ firstSlot s es i + k
-  place-is i s k j h c =
-      let (m, g, p) = slot-is i s j (c .declared) h (label-of es i s k (slotAt es j) c) in
-      let e : getD (slotsOfShape s (nameNo es i)) m noSlot ≡ slotAt es j = sym (slot-of i s m (c .declared) g .1 .is) ∙ ap (slotAt es) (sym p) in
-      p ∙ ap (λ (n : ℕ). firstSlot s es i + n) (one-place s (nameNo es i) m k g (c .one-of-it) (e ∙ c .is))
-
-  -- a slot is one component only
-  only-one : (t : Slot) (i i′ : ℕ) (s s′ : Shape) (k k′ : ℕ) → ComponentOf es i s k t → ComponentOf es i′ s′ k′ t → (i ≡ i′) × (s ≡ s′) × (k ≡ k′)
-  only-one t i i′ s s′ k k′ c c′ =
-      let one : i ≡ i′ = same-record es w i i′ s s′ (c .declared) (c′ .declared) (sym (label-of es i s k t c) ∙ label-of es i′ s′ k′ t c′) in
-      let shapes : s ≡ s′ = sym (shape-back s) ∙ ap shapeOf (sym (c .declared .kind-is) ∙ ap (kindNo es) one ∙ c′ .declared .kind-is) ∙ shape-back s′ in
-      let own : getD (slotsOfShape s′ (nameNo es i′)) k noSlot ≡ getD (slotsOfShape s′ (nameNo es i′)) k′ noSlot = rw (← shapes, ← one) (sym (c .is)) ∙ c′ .is in
-      (one, shapes, one-place s′ (nameNo es i′) k k′ (subst (λ (z : Shape). k < size z) shapes (c .one-of-it)) (c′ .one-of-it) own)
-
-  pub one-component : EachBelow (length (slots es)) (OneComponent es)
-  one-component j h =
-      let (i, s, k, c) = component-at es j h in
-      record {
-        declaring-record = i;
-        shape = s;
-        component = k;
-        this = c;
-        here = place-is i s k j h c;
-        no-other = λ i′ s′ k′ c′. only-one (slotAt es j) i′ i s′ s k′ k c′ c;
-      }
+    -- a slot with a declared shape's label is one of that shape's
+    pub slot-is : (i : ℕ) (s : Shape) (j : ℕ) → Declares es i s → j < length (slots es) → slotAt es j .shape ≡ nameNo es i
+        → (k : ℕ) × (k < size s) × (j ≡ firstSlot s es i + k)
+    slot-is i s j d h q =
+        let (i′, s′, k, c, here) = component-at j h in
+        let (one, shapes) = same-shape es w i i′ s s′ d (c .declared) (sym q ∙ label-of es i′ s′ k (slotAt es j) c) in
+        (k, rw shapes (c .one-of-it), rw (one, shapes) here)

@@ -28,15 +28,10 @@ module _ (vs : List Float) (at : ℕ) where
   abbrev shape : Shape → layout.Figure
   shape s = shapeAt (kindFor s) vs at
 
-  fields : (s : Shape) (l : Label) → map (fieldOf (shape s)) (slotsOfShape s l) ≡ upTo (size s) (λ k. getD vs (at + k) nan)
-  fields point l = rw (at-first vs at nan) refl
-  fields circle l = rw (at-first vs at nan) refl
-  fields arc l = rw (at-first vs at nan) refl
-
-  of-kind : (s : Shape) → layout.kindOf (shape s) ≡ kindFor s
-  of-kind point = refl
-  of-kind circle = refl
-  of-kind arc = refl
+  fields : (s : Shape) (l : Label) → (layout.kindOf (shape s) ≡ kindFor s) × (map (fieldOf (shape s)) (slotsOfShape s l) ≡ upTo (size s) (λ k. getD vs (at + k) nan))
+  fields point l = (refl, rw (at-first vs at nan) refl)
+  fields circle l = (refl, rw (at-first vs at nan) refl)
+  fields arc l = (refl, rw (at-first vs at nan) refl)
 
 -- ---- what is read out of the values of a drawing
 
@@ -54,11 +49,12 @@ module _ (es : List Entry) (w : Fine es) (few : length es ≤ layout.mostShapes)
     read-as : (i : ℕ) (s : Shape) (k : ℕ) (t : Slot) → ComponentOf es i s k t → ReadAs es vs i s t (getD vs (firstSlot s es i + k) nan)
     read-as i s k t c =
         let at = firstSlot s es i in
+        let (kind, named) = fields vs at s (nameNo es i) in
         record {
           shape = shapeAt (kindFor s) vs at;
-          of-kind = of-kind vs at s;
+          of-kind = kind;
           handed-back = handed-back i s (c .declared);
-          field-is = ap (fieldOf (shape vs at s)) (c .is) ∙ slots-by (fieldOf (shape vs at s)) (λ k. getD vs (at + k) nan) nan s (nameNo es i) (fields vs at s (nameNo es i)) k (c .one-of-it);
+          field-is = slots-by (fieldOf (shape vs at s)) (λ k. getD vs (at + k) nan) nan c named;
         }
 
   pub read-out : (vs : List Float) → length (slots es) ≤ length vs → (v : Float) → EachBelow (length (slots es)) (λ j. ReadOut es vs j v)
@@ -71,7 +67,7 @@ module _ (es : List Entry) (w : Fine es) (few : length es ≤ layout.mostShapes)
             subst (ReadAs es now i s (slotAt es j)) e (read-as now long-now i s k (slotAt es j) c);
         others = λ i s k t c other.
             let m = firstSlot s es i + k in
-            let there : t ≡ slotAt es m = c .is ∙ sym (slot-of es w i s k (c .declared) (c .one-of-it) .1 .is) in
+            let there : t ≡ slotAt es m = c .is ∙ sym (slot-of es i s k (c .declared) (c .one-of-it) .1 .is) in
             let e : getD now m nan ≡ getD vs m nan = getD-set-other vs j m v nan (λ q. other (there ∙ ap (slotAt es) q)) in
             (getD vs m nan, read-as vs long i s k t c, subst (ReadAs es now i s t) e (read-as now long-now i s k t c));
       }

@@ -1,6 +1,6 @@
 -- The id of a component is looked up under the name of the component: the lookup of a shape by its number clears its tests, and takes the ids of the
 -- shape's slots in the order of its components' names. Assumes nothing.
-use mathlib.Core.Path.{_≡_, refl, ap, _∙_}
+use mathlib.Core.Path.{_≡_, refl, _∙_}
 use mathlib.Core.List.{List, map}
 use Prim.Native.Nat.{ℕ, _+_, _≤_, _<_}
 use native.Mathlib.Omega.{arith}
@@ -45,15 +45,10 @@ module _ (ids : List ℕ) (at : ℕ) where
   taken circle = of-circle (circleVars ids at)
   taken arc = of-arc (arcVars ids at)
 
-  of-kind : (s : Shape) → idsKind (taken s) ≡ kindFor s
-  of-kind point = refl
-  of-kind circle = refl
-  of-kind arc = refl
-
-  ids-by-name : (s : Shape) (l : Label) → map (idOf (taken s)) (slotsOfShape s l) ≡ upTo (size s) (λ k. getD ids (at + k) 0)
-  ids-by-name point l = rw (at-first ids at 0) refl
-  ids-by-name circle l = rw (at-first ids at 0) refl
-  ids-by-name arc l = rw (at-first ids at 0) refl
+  ids-by-name : (s : Shape) (l : Label) → (idsKind (taken s) ≡ kindFor s) × (map (idOf (taken s)) (slotsOfShape s l) ≡ upTo (size s) (λ k. getD ids (at + k) 0))
+  ids-by-name point l = (refl, rw (at-first ids at 0) refl)
+  ids-by-name circle l = (refl, rw (at-first ids at 0) refl)
+  ids-by-name arc l = (refl, rw (at-first ids at 0) refl)
 
 -- ---- what the lookups hand back
 
@@ -68,11 +63,12 @@ module _ (es : List Entry) (few : length es ≤ layout.mostShapes) (ids : List �
   handed-back i arc d = answered-passed reasonNumber AI.Refused _ _ (clear i arc (before-inside es i arc d))
 
   pub looked-up : (i : ℕ) (s : Shape) (k : ℕ) (t : Slot) (n : ℕ) → ComponentOf es i s k t → getD ids (firstSlot s es i + k) 0 ≡ n → LookedUp es ids i s t n
-  looked-up i s k t n c e = record {
-    found = taken ids (firstSlot s es i) s;
-    of-kind = of-kind ids (firstSlot s es i) s;
-    handed-back = handed-back i s (c .declared);
-    id-is =
-        let at = firstSlot s es i in
-        ap (idOf (taken ids at s)) (c .is) ∙ slots-by (idOf (taken ids at s)) (λ k. getD ids (at + k) 0) 0 s (nameNo es i) (ids-by-name ids at s (nameNo es i)) k (c .one-of-it) ∙ e;
-  }
+  looked-up i s k t n c e =
+      let at = firstSlot s es i in
+      let (kind, named) = ids-by-name ids at s (nameNo es i) in
+      record {
+        found = taken ids at s;
+        of-kind = kind;
+        handed-back = handed-back i s (c .declared);
+        id-is = slots-by (idOf (taken ids at s)) (λ k. getD ids (at + k) 0) 0 c named ∙ e;
+      }

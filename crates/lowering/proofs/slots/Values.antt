@@ -1,11 +1,10 @@
 -- Each slot of a fine drawing starts at its component's guess: its part is guessed, and guessed once. Assumes nothing.
 use mathlib.Core.Path.{_≡_, refl, sym, _∙_}
-use mathlib.Core.List.{List}
+use mathlib.Core.List.{List, _++_}
 use Prim.Native.Nat.{ℕ, _<_}
 use native.Mathlib.Omega.{arith}
-use lib.Dec.{eqb}
-use lib.ListN.{length, getD, length-map}
-use lib.Ieee.{nan}
+use lib.ListN.{length, getD, drop, length-map, List·getD-append}
+use lib.Ieee.{Float, nan}
 use Rattle.refusal.specs.First.{EachBelow, SomeBelow}
 use Rattle.refusal.proofs.Says.{refuted}
 use Rattle.record.specs.Kinds.{pairGuess, numberGuess, Guess}
@@ -13,38 +12,37 @@ use Rattle.record.specs.Entry.{Label, Entry}
 use Rattle.names.specs.Labels.{kindNo, nameNo, labelled, lowestOr}
 use Rattle.names.proofs.First.{lowest-here}
 use Rattle.names.proofs.Names.{says-labelled}
-use Rattle.drawing.specs.Needs.{Shape, point, circle, arc, Part, parts}
+use Rattle.drawing.specs.Needs.{Shape, point, circle, arc, parts}
 use Rattle.drawing.specs.Faults.{Guessed}
-use Rattle.lowering.specs.Slots.{Slot, slotsOfPart, slots, guessOf, startOf, valuesOf}
+use Rattle.lowering.specs.Slots.{Slot, slotsOfShape, slots, guessOf, startOf, valuesOf}
+use Rattle.lowering.specs.Lower.{onto}
 use Rattle.lowering.specs.Demand.{noSlot, slotAt, GuessFor, Starts}
-use Rattle.ground.proofs.Pieces.{Each, each-at, each-both, each-flat, getD-map}
+use Rattle.ground.proofs.Pieces.{Each, each-at, getD-map}
+use Rattle.lowering.proofs.drawing.Counts.{length-shape}
 use Rattle.lowering.proofs.drawing.Fine.{Fine}
-use Rattle.lowering.proofs.ids.Tested.{by-test}
-use Rattle.lowering.proofs.slots.Around.{each-slot, each-of-all}
+use Rattle.lowering.proofs.slots.Components.{component-at}
 
 -- ---- each slot's part is guessed
 
 abbrev HasGuess : List Entry → Slot → Type 0
 HasGuess es t = SomeBelow (length es) (GuessFor es t)
 
--- the kinds of the guesses that are due
-due : (s : Shape) → Each (λ (p : Part). Guess (p .guess)) (parts s)
-due point = ((omega arith, omega arith), tt)
-due circle = ((omega arith, omega arith), ((omega arith, omega arith), tt))
-due arc = ((omega arith, omega arith), ((omega arith, omega arith), ((omega arith, omega arith), tt)))
+-- a guess of a part is one of each of its components
+module _ (es : List Entry) (l : Label) where
+  pair : (u : Label) → SomeBelow (length es) (λ g. (kindNo es g ≡ pairGuess) × (nameNo es g ≡ l ++ u))
+      → SomeBelow (length es) (λ g. Guess (kindNo es g) × (nameNo es g ≡ l ++ u))
+  pair u (g, h, (e, name)) = (g, h, ((omega (arith, e), omega (arith, e)), name))
 
-of-part : (es : List Entry) (l : Label) (p : Part) → Guess (p .guess) → Guessed es l p → Each (HasGuess es) (slotsOfPart l p)
-of-part es l p k (g, h, (e, name)) =
-    let is : Guess (kindNo es g) = rw e k in
-    by-test (Each (HasGuess es)) (eqb (p .guess) pairGuess) _ _ (λ t. ((g, h, (is, name)), ((g, h, (is, name)), tt))) (λ t. ((g, h, (is, name)), tt))
+  of-shape : (s : Shape) → Each (Guessed es l) (parts s) → Each (HasGuess es) (slotsOfShape s l)
+  of-shape point (p, t) = (pair _ p, (pair _ p, tt))
+  of-shape circle (p, ((g, h, (e, name)), t)) = (pair _ p, (pair _ p, ((g, h, ((omega (arith, e), omega (arith, e)), name)), tt)))
+  of-shape arc (p, (q, (r, t))) = (pair _ p, (pair _ p, (pair _ q, (pair _ q, (pair _ r, (pair _ r, tt))))))
 
-has-guess : (es : List Entry) → Fine es → Each (HasGuess es) (slots es)
-has-guess es w =
-    each-of-all (HasGuess es) es
-    (λ s. each-slot (λ (l : Label). Each (Guessed es l) (parts s)) (HasGuess es) s es
-    (λ l a. each-flat (slotsOfPart l) (λ (p : Part). Guess (p .guess) × Guessed es l p) (HasGuess es) (λ p h. of-part es l p (h .0) (h .1)) (parts s)
-    (each-both (λ (p : Part). Guess (p .guess)) (Guessed es l) (λ (p : Part). Guess (p .guess) × Guessed es l p) (λ p x y. (x, y)) (parts s) (due s) a))
-    (λ j d. w .guessed-all j s d))
+has-guess : (es : List Entry) → Fine es → EachBelow (length (slots es)) (λ j. HasGuess es (slotAt es j))
+has-guess es w j h =
+    let (i, s, k, c, here) = component-at es j h in
+    let l = nameNo es i in
+    rw (c .is) (each-at (HasGuess es) (slotsOfShape s l) noSlot (of-shape es l s (w .guessed-all i s (c .declared))) k (rw (length-shape s l) (c .one-of-it)))
 
 -- ---- what it starts at
 
@@ -57,7 +55,7 @@ guess-found es w g h k =
 pub starts : (es : List Entry) → Fine es → EachBelow (length (slots es)) (λ j. Starts es (slotAt es j) (startOf es (slotAt es j)))
 unfolding guessOf
 starts es w j h =
-    let (g, inside, (is, name)) = each-at (HasGuess es) (slots es) noSlot (has-guess es w) j h in
+    let (g, inside, (is, name)) = has-guess es w j h in
     record {
       guess = g;
       inside = inside;
@@ -73,6 +71,7 @@ module _ (es : List Entry) where
   unfolding valuesOf
   length-values = length-map (slots es) (startOf es)
 
-  pub value-at : (j : ℕ) → j < length (slots es) → getD (valuesOf es) j nan ≡ startOf es (slotAt es j)
+  pub value-at : (values : List Float) (j : ℕ) → j < length (slots es) → getD (onto values (valuesOf es)) j nan ≡ startOf es (slotAt es j)
   unfolding valuesOf
-  value-at j h = getD-map (startOf es) (slots es) j noSlot nan h
+  value-at values j h =
+      List·getD-append (valuesOf es) (drop (length (valuesOf es)) values) nan j (omega (arith, h, length-values)) ∙ getD-map (startOf es) (slots es) j noSlot nan h

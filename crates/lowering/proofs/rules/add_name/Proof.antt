@@ -4,7 +4,6 @@ use native.Mathlib.Omega.{arith}
 use Rattle.layout.proofs.Onward.{length-onward}
 use Rattle.row.specs.Row.{mostIds}
 use Rattle.lowering.specs.Steps.{firstAt, Placeable}
-use Rattle.lowering.proofs.ids.Spans.{added}
 use borrow.Author.Needs.{needs}
 use Rattle.lowering.proofs.rules.add_name.Statement.{statement}
 use Rattle.lowering.proofs.rules.add_name.Tie as tie
@@ -19,10 +18,8 @@ room c = rw (← c .span-of .ensures, length-onward) at (c .before .pre .2)
 append-requires : tie.Need-append-requires
 append-requires c κs = let t = c .before .before .before in (t .before .pre .0, room t, omega (arith, placeable t .fits))
 
-returns : tie.Need-returns
-returns c = let t = c .before .before .before .before .before in added (firstAt (t .before .args .firsts .now)) (t .before .args .next) _ _ (t .span-of .ensures) _ _ _ (c .before .append .ensures)
-
 pub add-name-spec : {M : Type 1} → statement M
 add-name-spec =
-    tie.close (tie.spec (λ c κs. search needs) (λ c. omega (arith, placeable c .inside)) (λ c. omega (arith, placeable c .inside)) (λ c. omega (arith, placeable (c .before) .fits)) (λ c. omega (arith, placeable (c .before) .fits))
-    (λ c. omega (arith, placeable (c .before .before) .fits)) (λ c. omega (arith, placeable (c .before .before) .fits)) append-requires (λ c. omega (arith, room (c .before .before .before .before .before))) returns)
+    tie.close (tie.spec (λ c κs. search needs) (λ c. omega (arith, placeable c .inside)) (λ c. omega (arith, placeable c .inside))
+    (λ c. omega (arith, placeable (c .before) .fits)) (λ c. omega (arith, placeable (c .before .before) .fits)) (λ c. omega (arith, placeable (c .before .before) .fits))
+    (λ c. omega (arith, placeable (c .before .before) .fits)) append-requires (λ c. rw (← c .before .before .before .before .span-of .ensures) (c .append .ensures)))

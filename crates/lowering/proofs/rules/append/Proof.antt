@@ -16,4 +16,6 @@ loop-again : tie.Need-loop-again Inv-loop μ-loop
 loop-again c = append-turn (c .before .loop .inv) (omega arith) (omega arith)
 
 pub append-spec : {M : Type 1} → statement M
-append-spec = tie.close (tie.spec Inv-loop μ-loop (λ c. append-start) (λ c. search needs) (λ c. search needs) (λ c. search needs) (λ c. search needs) (λ c. search needs) (λ c. search needs) (λ c. search needs) loop-again (λ c. append-end (c .before .loop .inv) (omega arith)))
+append-spec =
+    tie.close (tie.spec Inv-loop μ-loop (λ c. append-start) (λ c. search needs) (λ c. search needs) (λ c. search needs) (λ c. search needs) (λ c. search needs)
+    (λ c. search needs) (λ c. search needs) loop-again (λ c. search needs) (λ c. append-end (c .before .loop .inv) (omega arith)))

@@ -5,15 +5,18 @@ use mathlib.Core.Path.{_≡_, _∙_}
 use lib.ListN.{length}
 use Rattle.ground.proofs.UpTo.{length-up-to}
 use Rattle.record.specs.Kinds.{kindAt}
-use Rattle.drawing.proofs.Laws.{labels-read, four-labels}
+use Rattle.record.proofs.Table.{few-labels}
+use Rattle.drawing.proofs.Laws.{labels-read}
+use Rattle.lowering.specs.Sketch.{spanAt, spanIds, idsBy}
 use Rattle.lowering.specs.Steps.{namesAt, firstAt}
-use Rattle.lowering.proofs.rows.Filling.{pieces-start, span-read, Naming, name-fits, named-turn, named-end}
+use Rattle.lowering.proofs.rows.Filling.{Pieces, pieces-start, piece-fits, pieces-turn, pieces-end, span-read}
 use borrow.Author.Needs.{needs}
 use Rattle.lowering.proofs.rules.row_ids.Statement.{statement}
 use Rattle.lowering.proofs.rules.row_ids.Tie as tie
 
 abbrev Inv-loop : tie.InvT-loop
-Inv-loop kinds names firsts next kind third i out₀ n m₀ q₀ out m q = Naming (firstAt firsts) next kind third (namesAt names kind i) out₀ m out q
+Inv-loop kinds names firsts next kind third i out₀ n m₀ q₀ out m q =
+    Pieces (λ q. spanIds (firstAt firsts) next (spanAt kind third (namesAt names kind i) q)) (λ q. q) (length (namesAt names kind i)) out₀ m out q
 
 abbrev μ-loop : tie.MeasureT-loop
 μ-loop kinds names firsts next kind third i out₀ n m₀ q₀ out m q = n - q
@@ -31,27 +34,32 @@ inside c = rw (length-up-to (kindAt (c .before .before .before .args .kind) .lab
 
 -- its name has a place in the table
 place-inside : (c : tie.In-loop Inv-loop μ-loop) → c .before .before .before .args .i * 4 + c .before .loop .q < 7200
-place-inside c = let s = c .before .before .before in omega (arith, s .pre .1, one-of-them c, four-labels (s .args .kind))
+place-inside c = let s = c .before .before .before in omega (arith, s .pre .1, one-of-them c, few-labels (s .args .kind))
 
 add-name-requires : tie.Need-add-name-requires Inv-loop μ-loop
+unfolding idsBy
 add-name-requires c κs =
     let t = c .before .before .before in
     let s = t .before .before .before in
     let p = t .before .loop .inv in
-    rw (span-read (s .args .kinds .now) (s .args .names .now) (s .args .kind) (s .args .third) (s .args .i) (t .before .loop .q) _ (s .pre .0) (one-of-them t) (c .before .before .look2 .ensures))
-    (p .long ∙ s .pre .3, s .pre .2 .each (t .before .loop .q) (inside t), name-fits (s .pre .2) (s .pre .3) p (inside t))
+    let a = s .args in
+    rw (span-read (a .kinds .now) (a .names .now) (a .kind) (a .third) (a .i) (t .before .loop .q) _ (s .pre .0) (one-of-them t) (c .before .before .look2 .ensures)) (
+      p .long ∙ s .pre .3,
+      s .pre .2 .each (t .before .loop .q) (inside t),
+      rw (p .long, s .pre .3) at (piece-fits p (inside t) (omega (arith, s .pre .2 .few, s .pre .3))),
+    )
 
 loop-again : tie.Need-loop-again Inv-loop μ-loop
+unfolding idsBy
 loop-again c =
     let t = c .before .before .before .before in
     let s = t .before .before .before in
-    named-turn (s .pre .2) (s .pre .3) (t .before .loop .inv) (inside t) _ _
+    pieces-turn (t .before .loop .inv) (inside t) (omega (arith, s .pre .2 .few, s .pre .3)) _ _
     (rw (span-read (s .args .kinds .now) (s .args .names .now) (s .args .kind) (s .args .third) (s .args .i) (t .before .loop .q) _ (s .pre .0) (one-of-them t) (c .before .before .before .look2 .ensures)) at (c .add-name .ensures))
 
 returns : tie.Need-returns Inv-loop μ-loop
-returns c =
-    let s = c .before .before .before in
-    named-end (s .pre .2) (s .pre .3) (c .before .loop .inv) (rw (length-up-to (kindAt (s .args .kind) .labels) _) (omega (arith, labels (c .before .before))))
+unfolding idsBy
+returns c = pieces-end (c .before .loop .inv) (rw (length-up-to (kindAt (c .before .before .before .args .kind) .labels) _) (omega (arith, labels (c .before .before))))
 
 pub row-ids-spec : {M : Type 1} → statement M
 row-ids-spec = tie.close (tie.spec Inv-loop μ-loop (λ c κs. search needs) (λ c. search needs) (λ c. pieces-start) (λ c. search needs) (λ c κs. search needs) (λ c. omega (arith, place-inside (c .before)))

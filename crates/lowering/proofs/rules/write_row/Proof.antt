@@ -14,8 +14,7 @@ row-at-requires c κs =
 returns : tie.Need-returns
 returns c = wrote-row (c .before .before .before .before .before .before .before .before .before .before .pre .2) (rw (c .before .before .before .before .before .before .before .kind-at .ensures) at (c .before .before .before .before .before .before .if1 .taken)) _ _ _ (c .before .before .before .before .before .row-at .ensures) (c .before .before .put .ensures)
 
-returns-2 : tie.Need-returns-2
-returns-2 c = wrote-none (c .before .before .before .before .pre .2) (rw (c .before .kind-at .ensures) at (c .if1 .left))
-
 pub write-row-spec : {M : Type 1} → statement M
-write-row-spec = tie.close (tie.spec (λ c κs. search needs) row-at-requires (λ c. search needs) (λ c κs. search needs) (λ c. search needs) (λ c. search needs) returns returns-2)
+write-row-spec =
+    tie.close (tie.spec (λ c κs. search needs) row-at-requires (λ c. search needs) (λ c κs. search needs) (λ c. search needs) (λ c. search needs) returns
+    (λ c. wrote-none (c .before .before .before .before .pre .2) (rw (c .before .kind-at .ensures) at (c .if1 .left))))

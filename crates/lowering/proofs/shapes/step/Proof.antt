@@ -4,11 +4,7 @@ use borrow.Author.Needs.{needs}
 use Rattle.lowering.proofs.shapes.step.Statement.{statement}
 use Rattle.lowering.proofs.shapes.step.Tie as tie
 
-returns : tie.Need-returns
-returns c = rw (← c .before .before .before .done .ensures, c .before .m .given .1) refl
-
-returns-2 : tie.Need-returns-2
-returns-2 c = rw (← c .before .before .done .ensures, c .enum-told .given .1) refl
-
 pub step-spec : {M : Type 1} → statement M
-step-spec = tie.close (tie.spec (λ c κs. search needs) (λ c. search needs) (λ c. search needs) returns returns-2)
+step-spec =
+    tie.close (tie.spec (λ c κs. search needs) (λ c. search needs) (λ c. search needs) (λ c. rw (← c .before .before .before .done .ensures, c .before .m .given .1) refl)
+    (λ c. rw (← c .before .before .done .ensures, c .enum-told .given .1) refl))

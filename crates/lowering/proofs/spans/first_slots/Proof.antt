@@ -16,9 +16,6 @@ Inv-loop records points circles firsts₀ n circle arc at₀ i₀ firsts at i = 
 abbrev μ-loop : tie.MeasureT-loop
 μ-loop records points circles firsts₀ n circle arc at₀ i₀ firsts at i = countOf records - i
 
-loop-holds : tie.Need-loop-holds Inv-loop μ-loop
-loop-holds c = placing-start _ _ _ (c .before .pre .0) _ (c .before .pre .1)
-
 -- a kind that declares
 declares : (c : tie.Then1 Inv-loop μ-loop) → Declaration (c .before .kind-at .result)
 declares c = says-within newPoint newArc (c .before .kind-at .result) .so (c .if1 .taken)
@@ -39,5 +36,10 @@ loop-again c =
     (c .if1 .came)
 
 pub first-slots-spec : {M : Type 1} → statement M
-first-slots-spec = tie.close (tie.spec Inv-loop μ-loop (λ c. omega (arith, counts-small (c .before .pre .0))) (λ c. omega (arith, counts-small (c .before .pre .0))) (λ c. omega (arith, counts-small (c .before .pre .0))) (λ c. omega (arith, counts-small (c .before .pre .0))) (λ c. omega (arith, counts-small (c .before .pre .0)))
-    loop-holds (λ c κs. search needs) (λ c. search needs) (λ c. search needs) (λ c. omega (arith, declares c)) (λ c κs. search needs) (λ c. omega (arith, c .size-by .ensures, size-small (c .before .before .kind-at .result))) add-then (λ c. search needs) (λ c. omega (arith, c .before .before .before .before .before .before .pre .0 .few)) (λ c. search needs) (λ c. omega (arith, declares (c .before))) (λ c. search needs) (λ c. search needs) loop-again (λ c. placing-end _ _ _ (c .before .before .before .pre .0) (c .before .loop .inv) (omega arith)))
+first-slots-spec =
+    tie.close (tie.spec Inv-loop μ-loop (λ c. omega (arith, counts-small (c .before .pre .0))) (λ c. omega (arith, counts-small (c .before .pre .0)))
+    (λ c. omega (arith, counts-small (c .before .pre .0))) (λ c. omega (arith, counts-small (c .before .pre .0))) (λ c. omega (arith, counts-small (c .before .pre .0)))
+    (λ c. placing-start _ _ _ (c .before .pre .0) _ (c .before .pre .1)) (λ c κs. search needs) (λ c. search needs) (λ c. search needs) (λ c. omega (arith, declares c))
+    (λ c κs. search needs) (λ c. omega (arith, c .size-by .ensures, size-small (c .before .before .kind-at .result))) add-then (λ c. search needs)
+    (λ c. omega (arith, c .before .before .before .before .before .before .pre .0 .few)) (λ c. search needs) (λ c. omega (arith, declares (c .before)))
+    (λ c. search needs) (λ c. search needs) loop-again (λ c. placing-end _ _ _ (c .before .before .before .pre .0) (c .before .loop .inv) (omega arith)))

@@ -3,7 +3,8 @@ use mathlib.Core.Path.{refl}
 use native.Mathlib.Omega.{arith}
 use lib.Dec.{eqb}
 use Rattle.ground.proofs.Lists.{either-le}
-use Rattle.lowering.specs.Sketch.{kindBy, spanBy}
+use Rattle.names.specs.Names.{kindBy}
+use Rattle.lowering.specs.Sketch.{spanBy}
 use borrow.Author.Needs.{needs}
 use Rattle.lowering.proofs.spans.span_of.Statement.{statement}
 use Rattle.lowering.proofs.spans.span_of.Tie as tie

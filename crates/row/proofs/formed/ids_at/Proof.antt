@@ -5,11 +5,8 @@ use Rattle.row.proofs.Rows.{none-for, by-need}
 use Rattle.row.proofs.formed.ids_at.Statement.{statement}
 use Rattle.row.proofs.formed.ids_at.Tie as tie
 
-returns : tie.Need-returns
-returns c = by-need _ _ _ _ 0 (c .before .before .pre .0) (c .before .before .pre .1) (c .before .look .ensures) (none-for _ (c .if1 .taken))
-
-returns-2 : tie.Need-returns-2
-returns-2 c = by-need _ _ _ _ _ (c .before .before .pre .0) (c .before .before .pre .1) (c .before .look .ensures) refl
-
 pub ids-at-spec : {M : Type 1} → statement M
-ids-at-spec = tie.close (tie.spec (λ c. search needs) (λ c κs. search needs) (λ c. search needs) returns (λ c. search needs) (λ c. search needs) returns-2)
+ids-at-spec =
+    tie.close (tie.spec (λ c. search needs) (λ c κs. search needs) (λ c. search needs)
+    (λ c. by-need _ _ _ _ 0 (c .before .before .pre .0) (c .before .before .pre .1) (c .before .look .ensures) (none-for _ (c .if1 .taken)))
+    (λ c. search needs) (λ c. search needs) (λ c. by-need _ _ _ _ _ (c .before .before .pre .0) (c .before .before .pre .1) (c .before .look .ensures) refl))
