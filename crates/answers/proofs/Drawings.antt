@@ -2,20 +2,20 @@
 use mathlib.Core.Path.{_≡_, refl, sym, ap, _∙_}
 use mathlib.Core.List.{List, map}
 use Prim.Native.Nat.{ℕ, _+_, _*_, _/_, _^_, _≤_, _<_}
+use native.Mathlib.Nat.{zero-add}
 use native.Mathlib.Omega.{arith}
-use lib.ListN.{length, getD, take, drop, replicate, length-map, length-take, length-replicate}
+use lib.ListN.{length, getD, take, replicate, length-map, length-take, length-replicate}
 use lib.Ieee.{Float, nan, binary64, ofBits}
 use lib.Seq.{take-at}
 use Rattle.ground.specs.Lists.{upTo}
-use Rattle.refusal.specs.First.{Answer, passed, refused}
+use Rattle.refusal.specs.First.{Answer, passed, refused, answered}
 use Rattle.layout.specs.declared.Layout.{Layout}
 use Rattle.layout.specs.Push.{onward}
 use Rattle.layout.proofs.Onward.{length-onward, getD-onward}
 use Rattle.refusal.specs.declared.Refusal.{Refusal}
-use Rattle.refusal.specs.Refusal.{refusal}
 use Rattle.record.specs.Record.{mostRecords, longestText}
 use Rattle.record.specs.Decode.{noRecord}
-use Rattle.record.specs.Entry.{Entry, noEntry, entryAt, entryOf}
+use Rattle.record.specs.Entry.{Entry, entryAt, entryOf}
 use Rattle.record.specs.Formed.{entries}
 use Rattle.ground.proofs.UpTo.{up-to-same, up-to-map}
 use Rattle.reader.specs.Page.{recordsIn, linesOf}
@@ -41,24 +41,24 @@ use Rattle.lines.specs.Drawn.{loweredLine, slotLine, rowLine}
 use Rattle.lines.proofs.RowBack.{row-printed}
 use Rattle.answers.specs.Answers.{slotLines, drawingLines}
 use Rattle.answers.specs.Steps.{Read, slotsBy, loweredBy}
-use Rattle.answers.proofs.Room.{slotRoom, rowRoom, slots-most, rules-most, enough}
+use Rattle.answers.proofs.Room.{slotRoom, rowRoom, slots-most, rules-most}
 
 -- ---- rows
 
 -- the lines of rows that fit their bytes, from those bytes
 module _ (rs : List Row) (fit : Each RowFits rs) where
   row-shown : (k : ℕ) → k < length rs → rowLine (decodeRow (rowOf (encodeRows rs) k)) ≡ rowLine (getD rs k noRow)
-  row-shown k h = row-printed (getD rs k noRow) (each-at RowFits rs noRow fit k h) (encodeRows rs) k (omega (arith, h, rows-count rs)) (row-no rs k h)
+  row-shown k h = row-printed (getD rs k noRow) (each-at RowFits rs noRow fit k h) (encodeRows rs) k (omega (arith, rows-count rs)) (row-no rs k h)
 
   pub rows-shown : upTo (length (encodeRows rs) / rowBytes) (λ k. rowLine (decodeRow (rowOf (encodeRows rs) k))) ≡ map rowLine rs
-  rows-shown = rw (rows-count rs) (up-to-same (length rs) (λ k. rowLine (decodeRow (rowOf (encodeRows rs) k))) (λ k. rowLine (getD rs k noRow)) row-shown ∙ up-to-map rs noRow rowLine)
+  rows-shown = rw (rows-count rs) (up-to-same _ _ _ row-shown ∙ up-to-map rs noRow rowLine)
 
 -- the number of each line of a page fits eight bytes
 x-fits : (s : List ℕ) → length s ≤ longestText → (i : ℕ) → i < length (linesOf s) → entryAt (linesOf s) i .x < 2 ^ 64
 unfolding entryOf
 x-fits s short i h =
-    let b : i < length (recordsIn s) = omega (arith, h, length-map (recordsIn s) (entryOf s)) in
-    rw (getD-map (entryOf s) (recordsIn s) i noRecord noEntry b) (written-fits s short noRecord i b .x-fits)
+    let b : i < length (recordsIn s) = omega (arith, length-map (recordsIn s) (entryOf s)) in
+    rw (getD-map (entryOf s) (recordsIn s) i noRecord) (written-fits s short noRecord i b .x-fits)
 
 -- ---- slots
 
@@ -66,9 +66,7 @@ slots-shown : (es : List Entry)
     → upTo (length (onward 0 (length (slots es)))) (λ j. slotLine (getD (onward 0 (length (slots es))) j 0) (getD (valuesOf es) j nan)) ≡ slotLines es
 slots-shown es =
     let n = length (slots es) in
-    rw (length-onward 0 n)
-    (up-to-same n (λ j. slotLine (getD (onward 0 n) j 0) (getD (valuesOf es) j nan)) (λ j. slotLine j (getD (valuesOf es) j nan))
-    (λ j h. ap (λ (id : ℕ). slotLine id (getD (valuesOf es) j nan)) (getD-onward 0 n j h ∙ omega arith)))
+    rw length-onward (up-to-same n (λ j. slotLine (getD (onward 0 n) j 0) (getD (valuesOf es) j nan)) _ (λ j h. rw (getD-onward 0 n j, zero-add)))
 
 -- ---- a call of lowering, with all that is lent
 
@@ -87,50 +85,48 @@ lent = roomIn 0 ids₀ values₀ rows₀
 
 -- as many as are taken are there
 pub there : {A : Type 0} (n : ℕ) (l : List A) → length (take n l) ≡ n → n ≤ length l
-there n l e = omega (arith, e, length-take n l)
+there n l e = omega (arith, length-take n l)
 
 module _ {s bs : List ℕ} (read : Read s bs) {told : Lowered} {ids : List ℕ} {values : List Float} {rows : List ℕ} (call : Lowers (entries s bs) 0 ids₀ values₀ rows₀ told ids values rows) where
   few : length (linesOf s) ≤ mostRecords
-  few = omega (arith, read .few, length-map (recordsIn s) (entryOf s))
+  few = omega (arith, length-map (recordsIn s) (entryOf s))
 
   suffices : Enough (linesOf s) lent
-  suffices =
-      enough (linesOf s) few lent refl (omega (arith, length-replicate {0} {A = ℕ} slotRoom 0)) (omega (arith, length-replicate {0} {A = Float} slotRoom (ofBits binary64 0)))
-      (omega (arith, length-replicate {0} {A = ℕ} rowRoom 0))
+  suffices = simp length-replicate (omega (arith, slots-most (linesOf s) few, rules-most (linesOf s) few))
 
   on-lines : Lowers (linesOf s) 0 ids₀ values₀ rows₀ told ids values rows
   on-lines = rw (read .entries-are) at call
 
+  -- what is told, by the check
+  told-by : (a : Answer Fault) → checkOf (linesOf s) ≡ a
+      → told ≡ answered numberOf L.Refused a (L.Good (layoutOf (linesOf s)) (0 + length (slots (linesOf s))) (length (rulesOf (linesOf s))))
+  unfolding answered
+  told-by passed h = on-lines .answer ∙ lower-good (linesOf s) lent suffices h
+  told-by (refused f i) h = on-lines .answer ∙ lower-refused (linesOf s) lent f i h
+
   -- a refusal is the check's
   pub refused-lines : {r : Refusal} → told ≡ L.Refused r → drawingLines (checkOf (linesOf s)) (linesOf s) ≡ loweredLine told
-  unfolding loweredLine
+  unfolding loweredLine answered
   refused-lines {r} e = go (checkOf (linesOf s)) refl
     where
       go : (a : Answer Fault) → checkOf (linesOf s) ≡ a → drawingLines a (linesOf s) ≡ loweredLine told
-      go passed h =
-          let g : told ≡ L.Good (layoutOf (linesOf s)) (0 + length (slots (linesOf s))) (length (rulesOf (linesOf s))) = on-lines .answer ∙ lower-good (linesOf s) lent suffices h in
-          let z : _≡_ {A = ℕ} 0 1 = cc in
-          absurd (omega arith)
-      go (refused f i) h = rw (on-lines .answer ∙ lower-refused (linesOf s) lent f i h)
+      go passed h = cc (told-by passed h)
+      go (refused f i) h = rw (told-by (refused f i) h)
 
   module _ {l : Layout} {next count : ℕ} (e : told ≡ L.Good l next count) where
     passes : checkOf (linesOf s) ≡ passed
+    unfolding answered
     passes = go (checkOf (linesOf s)) refl
       where
         go : (a : Answer Fault) → checkOf (linesOf s) ≡ a → a ≡ passed
         go passed h = refl
-        go (refused f i) h =
-            let g : told ≡ L.Refused (refusal (numberOf f) i) = on-lines .answer ∙ lower-refused (linesOf s) lent f i h in
-            let z : _≡_ {A = ℕ} 0 1 = cc in
-            absurd (omega arith)
+        go (refused f i) h = cc (told-by (refused f i) h)
 
     good-is : lowerOf (linesOf s) lent ≡ L.Good (layoutOf (linesOf s)) (0 + length (slots (linesOf s))) (length (rulesOf (linesOf s)))
     good-is = lower-good (linesOf s) lent suffices passes
 
     told-is : told ≡ L.Good (layoutOf (linesOf s)) (length (slots (linesOf s))) (length (rulesOf (linesOf s)))
-    told-is =
-        let n : 0 + length (slots (linesOf s)) ≡ length (slots (linesOf s)) = omega arith in
-        on-lines .answer ∙ good-is ∙ rw n
+    told-is = on-lines .answer ∙ good-is ∙ rw zero-add
 
     next-is : next ≡ length (slots (linesOf s))
     next-is = cc (told-is, e)
@@ -139,7 +135,7 @@ module _ {s bs : List ℕ} (read : Read s bs) {told : Lowered} {ids : List ℕ} 
     count-is = cc (told-is, e)
 
     pub count-most : count ≤ mostRecords
-    count-most = omega (arith, count-is, rules-most (linesOf s) few)
+    count-most = rw count-is (rules-most (linesOf s) few)
 
     fits : Each RowFits (rowsOf (linesOf s) 0)
     fits = rows-fit (linesOf s) (fine (linesOf s) passes) 0 (omega (arith, slots-most (linesOf s) few)) (x-fits s (read .short))
@@ -149,19 +145,13 @@ module _ {s bs : List ℕ} (read : Read s bs) {told : Lowered} {ids : List ℕ} 
 
     -- what was written
     ids-taken : take next ids ≡ onward 0 (length (slots (linesOf s)))
-    ids-taken =
-        let n = length (slots (linesOf s)) in
-        rw (on-lines .ids-are, good-is, next-is) (take-at (onward 0 n) (drop (length (onward 0 n)) ids₀) n (length-onward 0 n))
+    ids-taken = rw (on-lines .ids-are, good-is, next-is) (take-at (onward 0 (length (slots (linesOf s)))) _ _ (length-onward 0 (length (slots (linesOf s)))))
 
     values-taken : take next values ≡ valuesOf (linesOf s)
-    values-taken =
-        rw (on-lines .values-are, good-is, next-is)
-        (take-at (valuesOf (linesOf s)) (drop (length (valuesOf (linesOf s))) values₀) (length (slots (linesOf s))) (length-values (linesOf s)))
+    values-taken = rw (on-lines .values-are, good-is, next-is) (take-at (valuesOf (linesOf s)) _ _ (length-values (linesOf s)))
 
     rows-taken : take (count * rowBytes) rows ≡ encodeRows (rowsOf (linesOf s) 0)
-    rows-taken =
-        let written = encodeRows (rowsOf (linesOf s) 0) in
-        rw (on-lines .rows-are, good-is) (take-at written (drop (length written) rows₀) (count * rowBytes) written-length)
+    rows-taken = rw (on-lines .rows-are, good-is) (take-at (encodeRows (rowsOf (linesOf s) 0)) _ _ written-length)
 
     -- the rows are well formed
     pub well-formed : RowsFormed (take (count * rowBytes) rows)
@@ -177,12 +167,7 @@ module _ {s bs : List ℕ} (read : Read s bs) {told : Lowered} {ids : List ℕ} 
     pub rows-size : length (take (count * rowBytes) rows) ≡ count * rowBytes
     rows-size = ap length rows-taken ∙ written-length
 
-    lines-are : loweredBy told (onward 0 (length (slots (linesOf s)))) (valuesOf (linesOf s)) (encodeRows (rowsOf (linesOf s) 0)) ≡ drawingLines passed (linesOf s)
-    unfolding loweredBy slotsBy
-    lines-are = rw (slots-shown (linesOf s), rows-shown (rowsOf (linesOf s) 0) fits, told-is)
-
     -- and its lines are those that are due
     pub good-lines : drawingLines (checkOf (linesOf s)) (linesOf s) ≡ loweredBy (L.Good l next count) (take next ids) (take next values) (take (count * rowBytes) rows)
-    good-lines =
-        rw (passes, ids-taken, values-taken, rows-taken)
-        (sym lines-are ∙ ap (λ (z : Lowered). loweredBy z (onward 0 (length (slots (linesOf s)))) (valuesOf (linesOf s)) (encodeRows (rowsOf (linesOf s) 0))) e)
+    unfolding loweredBy slotsBy
+    good-lines = rw (passes, ids-taken, values-taken, rows-taken, slots-shown (linesOf s), rows-shown (rowsOf (linesOf s) 0) fits, ← e, told-is)

@@ -1,13 +1,14 @@
 -- What is lent to lowering is enough for every drawing that a page holds: no record declares two shapes, a shape has at most six slots,
 -- and no record has two rows. Assumes nothing.
-use mathlib.Core.Path.{_≡_, refl}
-use mathlib.Core.Bool.{Bool, true, false, cond}
+use mathlib.Core.Path.{_≡_}
+use mathlib.Core.Bool.{cond}
 use mathlib.Core.List.{List}
 use Prim.Native.Nat.{ℕ, zero, suc, _+_, _*_, _≤_}
+use native.Mathlib.Decide.{ℕ-discrete}
 use native.Mathlib.Omega.{arith}
-use lib.Dec.{eqb}
 use lib.ListN.{length}
-use borrow.Author.Tests.{eqb-true}
+use borrow.Author.Tests.{ne-eqb}
+use Rattle.ground.proofs.Lists.{either-le}
 use Rattle.layout.specs.Slots.{sizeOf}
 use Rattle.layout.specs.declared.ShapeKind.the-variants.{Arc}
 use Rattle.row.specs.Row.{rowBytes}
@@ -18,10 +19,9 @@ use Rattle.names.specs.Labels.{kindNo, within}
 use Rattle.drawing.specs.Check.{countBelow}
 use Rattle.lowering.specs.Slots.{slots}
 use Rattle.lowering.specs.Rows.{rulesOf}
-use Rattle.lowering.specs.Lower.{Room}
-use Rattle.lowering.specs.Demand.{Enough}
 use Rattle.names.proofs.Laws.{within-one}
-use Rattle.lowering.proofs.drawing.Counts.{count-le, rules-all, slot-count}
+use Rattle.drawing.proofs.Laws.{count-le}
+use Rattle.lowering.proofs.drawing.Counts.{rules-all, slot-count}
 
 -- room for the slots and for the rows of any drawing that a page holds
 abbrev pub slotRoom : ℕ
@@ -32,16 +32,12 @@ rowRoom = mostRecords * rowBytes
 
 -- a number is one of 1, 2 and 3 at most once
 once : (k : ℕ) → cond (within 1 1 k) 1 0 + cond (within 2 2 k) 1 0 + cond (within 3 3 k) 1 0 ≤ 1
-once k = rw (within-one 1 k, within-one 2 k, within-one 3 k) (go (eqb k 1) refl (eqb k 2) refl (eqb k 3) refl)
+once k = go (ℕ-discrete k 1) (ℕ-discrete k 2)
   where
-    go : (a : Bool) → eqb k 1 ≡ a → (b : Bool) → eqb k 2 ≡ b → (c : Bool) → eqb k 3 ≡ c → cond a 1 0 + cond b 1 0 + cond c 1 0 ≤ 1
-    go true e true f c g = absurd (omega (arith, eqb-true k 1 e, eqb-true k 2 f))
-    go true e false f true g = absurd (omega (arith, eqb-true k 1 e, eqb-true k 3 g))
-    go true e false f false g = omega arith
-    go false e true f true g = absurd (omega (arith, eqb-true k 2 f, eqb-true k 3 g))
-    go false e true f false g = omega arith
-    go false e false f true g = omega arith
-    go false e false f false g = omega arith
+    go : Dec (k ≡ 1) → Dec (k ≡ 2) → cond (within 1 1 k) 1 0 + cond (within 2 2 k) 1 0 + cond (within 3 3 k) 1 0 ≤ 1
+    go (yes e) b = rw e (omega arith)
+    go (no f) (yes e) = rw e (omega arith)
+    go (no f) (no g) = rw (within-one 1 k, within-one 2 k, ne-eqb k 1 f, ne-eqb k 2 g) (omega (arith, either-le (within 3 3 k) 1 0 1 (omega arith) (omega arith)))
 
 shapes-le : (kinds : ℕ → ℕ) (n : ℕ) → countBelow kinds 1 1 n + countBelow kinds 2 2 n + countBelow kinds 3 3 n ≤ n
 unfolding countBelow
@@ -50,16 +46,7 @@ shapes-le kinds (suc n) = omega (arith, shapes-le kinds n, once (kinds n))
 
 module _ (es : List Entry) (few : length es ≤ mostRecords) where
   pub slots-most : length (slots es) ≤ slotRoom
-  slots-most = omega (arith, few, slot-count es, shapes-le (kindNo es) (length es))
+  slots-most = omega (arith, slot-count es, shapes-le (kindNo es) (length es))
 
   pub rules-most : length (rulesOf es) ≤ mostRecords
-  rules-most = omega (arith, few, rules-all es, count-le (kindNo es) firstRule lastRule (length es))
-
-  pub enough : (room : Room) → room .next ≡ 0 → slotRoom ≤ room .ids → slotRoom ≤ room .values → rowRoom ≤ room .row-bytes → Enough es room
-  enough room n i v r =
-      record {
-        ids-left = omega (arith, n, slots-most);
-        ids-lent = omega (arith, i, slots-most);
-        values-lent = omega (arith, v, slots-most);
-        rows-lent = omega (arith, r, rules-most);
-      }
+  rules-most = omega (arith, rules-all es, count-le (kindNo es) firstRule lastRule (length es))

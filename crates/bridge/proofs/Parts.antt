@@ -1,13 +1,13 @@
 -- The start and length that are told of a label name the label itself; and a number that is no stage's gives an impossible layout. A good record is whole,
 -- so that it is the one record of its bytes. Assumes nothing.
-use mathlib.Core.Path.{_≡_, refl, sym, subst, ap}
+use mathlib.Core.Path.{_≡_, refl, sym, subst}
 use mathlib.Core.Bool.{Bool, true, false, cond}
 use mathlib.Core.List.{List, [], _∷_}
-use Prim.Native.Nat.{ℕ, zero, suc, _<_}
+use Prim.Native.Nat.{ℕ, suc, _<_}
 use native.Mathlib.Omega.{arith}
 use lib.Dec.{eqb}
-use lib.ListN.{length, take, drop}
-use lib.Seq.{take-all}
+use lib.ListN.{length, take, drop, take-append-drop}
+use lib.Seq.{take-all, take-append-seam}
 use borrow.Author.Tests.{ne-eqb, lt-ltb, lt-leb}
 use Rattle.refusal.proofs.Says.{says-and, says-lt}
 use Rattle.record.specs.Record.{recordBytes, labelPlaces}
@@ -23,20 +23,18 @@ use Rattle.bridge.specs.Given.{lastStage, layoutBy}
 
 -- as many elements as a front has give that front
 take-front : {A : Type 0} (n : ℕ) (xs : List A) → take (length (take n xs)) xs ≡ take n xs
-take-front zero xs = refl
-take-front (suc n) [] = refl
-take-front (suc n) (x ∷ xs) = ap (λ l. x ∷ l) (take-front n xs)
+take-front n xs = rw take-append-drop at (take-append-seam (take n xs) (drop n xs))
 
 -- a part of a text is the part from the same start with its own length; an empty one stands anywhere
 part-again : (text : List ℕ) (s n : ℕ) (l : List ℕ) → l ≡ part text s n → part text (cond (eqb (length l) 0) 0 s) (length l) ≡ l
 part-again text s n [] e = refl
 part-again text s n (x ∷ l) e =
-    rw (ne-eqb (suc (length l)) 0 (λ z. omega (arith, z))) (subst (λ m. take (length m) (drop s text) ≡ m) (sym e) (take-front n (drop s text)))
+    rw (ne-eqb (suc (length l)) 0 (omega arith)) (subst (λ m. take (length m) (drop s text) ≡ m) (sym e) (take-front n (drop s text)))
 
 -- bytes as long as one record are that record
 one-record : (b : List ℕ) → length b ≡ recordBytes → decodeAt b 0 ≡ decode b
 unfolding decodeAt
-one-record b e = rw (e, take-all recordBytes b (omega (arith, e))) refl
+one-record b e = rw (e, take-all recordBytes b (omega arith))
 
 told-part : (text b : List ℕ) (q : ℕ) (t : Bool) → (t ≡ true → (length b ≡ recordBytes) × (q < labelPlaces))
     → part text (startTold b q (length (cond t (named text (decode b) q) []))) (length (cond t (named text (decode b) q) [])) ≡ cond t (named text (decode b) q) []
@@ -54,4 +52,4 @@ label-there text b q =
 -- 20 is told of every layout whose stage has no such number
 pub no-such-stage : (points circles arcs s : ℕ) → lastStage < s → impossible (layoutBy points circles arcs s) ≡ true
 unfolding layoutBy impossible
-no-such-stage points circles arcs s h = rw (lt-ltb lastStage s h) refl
+no-such-stage points circles arcs s h = rw (lt-ltb lastStage s h)

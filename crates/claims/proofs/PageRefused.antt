@@ -47,7 +47,4 @@ module _ (text buffer : List ℕ) (instructions guesses end : ℕ) (buffer′ : 
       ↔ ((c : Cause) × (causeNumber c ≡ number) × Told (Causes (linesOf text) room) (places (linesOf text)) (map fault behind30 ++ map lack lackOrder) c place)
   page-lower-refused-iff room number place =
       let t = lower-refused-iff (linesOf text) room number place in
-      rw lines-are (
-        λ e. let (c, n, w) = t .0 e in (c, n, without w never),
-        λ w. t .1 (w .0, w .1, later never (w .2)),
-      )
+      rw lines-are (λ e. let w = t .0 e in (w .0, w .1, without (w .2) never), λ w. t .1 (w .0, w .1, later never (w .2)))

@@ -4,9 +4,6 @@ use Rattle.answers.specs.Answers.{answerOf}
 use Rattle.answers.proofs.listing.Statement.{statement}
 use Rattle.answers.proofs.listing.Tie as tie
 
-returns : tie.Need-returns
-unfolding answerOf
-returns c = c .before .before .answer .ensures
-
 pub listing-spec : {M : Type 1} → statement M
-listing-spec = tie.close (tie.spec (λ c κs. search needs) (λ c. search needs) returns)
+unfolding answerOf
+listing-spec = tie.close (tie.spec (λ c κs. search needs) (λ c. search needs) (λ c. c .before .before .answer .ensures))

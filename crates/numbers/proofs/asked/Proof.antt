@@ -6,12 +6,8 @@ use lib.ListN.{length}
 use Rattle.numbers.proofs.asked.Statement.{statement}
 use Rattle.numbers.proofs.asked.Tie as tie
 
-abbrev Inv-loop : tie.InvT-loop
-Inv-loop line bits₀ i₀ bits i = Unit {0}
-
-abbrev μ-loop : tie.MeasureT-loop
-μ-loop line bits₀ i₀ bits i = length line - i
-
 pub asked-spec : {M : Type 1} → statement M
-asked-spec = tie.close (tie.spec Inv-loop μ-loop (λ c κs. search needs) (λ c. search needs) (λ c. search needs) (λ c. search needs) (λ c κs. search needs) (λ c. search needs) (λ c. search needs) (λ c. search needs) (λ c. search needs) (λ c. search needs)
-    (λ c. search needs) (λ c. search needs))
+asked-spec =
+    tie.close (tie.spec (λ line bits₀ i₀ bits i. Unit {0}) (λ line bits₀ i₀ bits i. length line - i) (λ c κs. search needs) (λ c. search needs) (λ c. search needs)
+    (λ c. search needs) (λ c κs. search needs) (λ c. search needs) (λ c. search needs) (λ c. search needs) (λ c. search needs) (λ c. search needs) (λ c. search needs)
+    (λ c. search needs))

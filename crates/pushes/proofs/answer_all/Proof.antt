@@ -6,12 +6,8 @@ use borrow.Author.Needs.{needs}
 use Rattle.pushes.proofs.answer_all.Statement.{statement}
 use Rattle.pushes.proofs.answer_all.Tie as tie
 
-abbrev Inv-loop : tie.InvT-loop
-Inv-loop text ids₀ values₀ now₀ at₀ ids values now at = (length ids ≡ length ids₀) × (length values ≡ length values₀)
-
-abbrev μ-loop : tie.MeasureT-loop
-μ-loop text ids₀ values₀ now₀ at₀ ids values now at = length text - at
-
 pub answer-all-spec : {M : Type 1} → statement M
-answer-all-spec = tie.close (tie.spec Inv-loop μ-loop (λ c. search needs) (λ c κs. search needs) (λ c. search needs) (λ c. search needs) (λ c. search needs) (λ c κs. search needs) (λ c. search needs) (λ c. search needs) (λ c. search needs) (λ c. search needs)
-    (λ c. search needs) (λ c. search needs))
+answer-all-spec =
+    tie.close (tie.spec (λ text ids₀ values₀ now₀ at₀ ids values now at. (length ids ≡ length ids₀) × (length values ≡ length values₀))
+    (λ text ids₀ values₀ now₀ at₀ ids values now at. length text - at) (λ c. search needs) (λ c κs. search needs) (λ c. search needs) (λ c. search needs)
+    (λ c. search needs) (λ c κs. search needs) (λ c. search needs) (λ c. search needs) (λ c. search needs) (λ c. search needs) (λ c. search needs) (λ c. search needs))

@@ -5,12 +5,8 @@ use borrow.Author.Needs.{needs}
 use Rattle.pushes.proofs.put_ids.Statement.{statement}
 use Rattle.pushes.proofs.put_ids.Tie as tie
 
-abbrev Inv-loop : tie.InvT-loop
-Inv-loop ids i₀ t4 i = Unit {0}
-
-abbrev μ-loop : tie.MeasureT-loop
-μ-loop ids i₀ t4 i = length ids - i
-
 pub put-ids-spec : {M : Type 1} → statement M
-put-ids-spec = tie.close (tie.spec Inv-loop μ-loop (λ c. search needs) (λ c κs. search needs) (λ c. search needs) (λ c. search needs) (λ c. search needs) (λ c κs. search needs) (λ c. search needs) (λ c. search needs) (λ c. search needs) (λ c. search needs)
-    (λ c κs. search needs) (λ c. search needs))
+put-ids-spec =
+    tie.close (tie.spec (λ ids i₀ t4 i. Unit {0}) (λ ids i₀ t4 i. length ids - i) (λ c. search needs) (λ c κs. search needs) (λ c. search needs) (λ c. search needs)
+    (λ c. search needs) (λ c κs. search needs) (λ c. search needs) (λ c. search needs) (λ c. search needs) (λ c. search needs) (λ c κs. search needs)
+    (λ c. search needs))

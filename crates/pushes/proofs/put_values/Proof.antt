@@ -5,12 +5,8 @@ use borrow.Author.Needs.{needs}
 use Rattle.pushes.proofs.put_values.Statement.{statement}
 use Rattle.pushes.proofs.put_values.Tie as tie
 
-abbrev Inv-loop : tie.InvT-loop
-Inv-loop values i₀ t4 i = Unit {0}
-
-abbrev μ-loop : tie.MeasureT-loop
-μ-loop values i₀ t4 i = length values - i
-
 pub put-values-spec : {M : Type 1} → statement M
-put-values-spec = tie.close (tie.spec Inv-loop μ-loop (λ c. search needs) (λ c κs. search needs) (λ c. search needs) (λ c. search needs) (λ c. search needs) (λ c κs. search needs) (λ c κs. search needs) (λ c. search needs) (λ c. search needs)
-    (λ c. search needs) (λ c. search needs) (λ c κs. search needs) (λ c. search needs))
+put-values-spec =
+    tie.close (tie.spec (λ values i₀ t4 i. Unit {0}) (λ values i₀ t4 i. length values - i) (λ c. search needs) (λ c κs. search needs) (λ c. search needs)
+    (λ c. search needs) (λ c. search needs) (λ c κs. search needs) (λ c κs. search needs) (λ c. search needs) (λ c. search needs) (λ c. search needs)
+    (λ c. search needs) (λ c κs. search needs) (λ c. search needs))

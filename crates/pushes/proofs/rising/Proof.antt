@@ -5,11 +5,7 @@ use borrow.Author.Needs.{needs}
 use Rattle.pushes.proofs.rising.Statement.{statement}
 use Rattle.pushes.proofs.rising.Tie as tie
 
-abbrev Inv-loop : tie.InvT-loop
-Inv-loop ids first id₀ i₀ id i = Unit {0}
-
-abbrev μ-loop : tie.MeasureT-loop
-μ-loop ids first id₀ i₀ id i = length ids - i
-
 pub rising-spec : {M : Type 1} → statement M
-rising-spec = tie.close (tie.spec Inv-loop μ-loop (λ c. search needs) (λ c. search needs) (λ c. search needs) (λ c κs. search needs) (λ c. search needs) (λ c κs. search needs) (λ c. search needs) (λ c. search needs) (λ c. search needs) (λ c. search needs))
+rising-spec =
+    tie.close (tie.spec (λ ids first id₀ i₀ id i. Unit {0}) (λ ids first id₀ i₀ id i. length ids - i) (λ c. search needs) (λ c. search needs) (λ c. search needs)
+    (λ c κs. search needs) (λ c. search needs) (λ c κs. search needs) (λ c. search needs) (λ c. search needs) (λ c. search needs) (λ c. search needs))

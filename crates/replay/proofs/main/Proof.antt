@@ -3,12 +3,8 @@ use borrow.Author.Needs.{needs}
 use Rattle.replay.proofs.main.Statement.{statement}
 use Rattle.replay.proofs.main.Tie as tie
 
-abbrev Inv-loop : tie.InvT-loop
-Inv-loop text₀ line₀ out₀ left₀ text line out left = Unit {0}
-
-abbrev μ-loop : tie.MeasureT-loop
-μ-loop text₀ line₀ out₀ left₀ text line out left = left
-
 pub main-spec : {M : Type 1} → statement M
-main-spec = tie.close (tie.spec Inv-loop μ-loop (λ c κs. search needs) (λ c. search needs) (λ c. search needs) (λ c. search needs) (λ c. search needs) (λ c κs. search needs) (λ c. search needs) (λ c. search needs) (λ c. search needs) (λ c. search needs)
-    (λ c. search needs))
+main-spec =
+    tie.close (tie.spec (λ text₀ line₀ out₀ left₀ text line out left. Unit {0}) (λ text₀ line₀ out₀ left₀ text line out left. left) (λ c κs. search needs)
+    (λ c. search needs) (λ c. search needs) (λ c. search needs) (λ c. search needs) (λ c κs. search needs) (λ c. search needs) (λ c. search needs) (λ c. search needs)
+    (λ c. search needs) (λ c. search needs))

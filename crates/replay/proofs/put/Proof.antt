@@ -6,12 +6,9 @@ use Rattle.rail.proofs.Added.{inside}
 use Rattle.replay.proofs.put.Statement.{statement}
 use Rattle.replay.proofs.put.Tie as tie
 
-slice-reshare-prefix-write-all : tie.Need-slice-reshare-prefix-write-all
-slice-reshare-prefix-write-all c = inside _ (c .before .before .before .before .before .answer .ensures) (c .before .end .given .1)
-
-slice-aggregate-write-all-2 : tie.Need-slice-aggregate-write-all-2
-slice-aggregate-write-all-2 c = sym (length-take-le _ _ (inside _ (c .before .before .before .before .before .before .answer .ensures) (c .before .before .end .given .1)))
-
 pub put-spec : {M : Type 1} → statement M
-put-spec = tie.close (tie.spec (λ c κs. search needs) (λ c. search needs) (λ c. search needs) (λ c. search needs) (λ c κs. search needs) (λ c. search needs) (λ c. search needs) slice-reshare-prefix-write-all slice-aggregate-write-all-2 (λ c κs. search needs)
-    (λ c. search needs) (λ c κs. search needs) (λ c. search needs) (λ c. search needs))
+put-spec =
+    tie.close (tie.spec (λ c κs. search needs) (λ c. search needs) (λ c. search needs) (λ c. search needs) (λ c κs. search needs) (λ c. search needs)
+    (λ c. search needs) (λ c. inside _ (c .before .before .before .before .before .answer .ensures) (c .before .end .given .1))
+    (λ c. sym (length-take-le _ _ (inside _ (c .before .before .before .before .before .before .answer .ensures) (c .before .before .end .given .1))))
+    (λ c κs. search needs) (λ c. search needs) (λ c κs. search needs) (λ c. search needs) (λ c. search needs))

@@ -6,12 +6,8 @@ use borrow.Author.Needs.{needs}
 use Rattle.replay.proofs.read_line.Statement.{statement}
 use Rattle.replay.proofs.read_line.Tie as tie
 
-abbrev Inv-loop : tie.InvT-loop
-Inv-loop line₀ i₀ line i = length line ≡ length line₀
-
-abbrev μ-loop : tie.MeasureT-loop
-μ-loop line₀ i₀ line i = length line₀ - i
-
 pub read-line-spec : {M : Type 1} → statement M
-read-line-spec = tie.close (tie.spec Inv-loop μ-loop (λ c. refl) (λ c κs. search needs) (λ c. search needs) (λ c. search needs) (λ c κs. search needs) (λ c. search needs) (λ c. search needs) (λ c. search needs) (λ c. search needs) (λ c. search needs)
-    (λ c. search needs) (λ c. search needs) (λ c. simp length-set (search needs)) (λ c. search needs) (λ c. search needs))
+read-line-spec =
+    tie.close (tie.spec (λ line₀ i₀ line i. length line ≡ length line₀) (λ line₀ i₀ line i. length line₀ - i) (λ c. refl) (λ c κs. search needs) (λ c. search needs)
+    (λ c. search needs) (λ c κs. search needs) (λ c. search needs) (λ c. search needs) (λ c. search needs) (λ c. search needs) (λ c. search needs) (λ c. search needs)
+    (λ c. search needs) (λ c. simp length-set (search needs)) (λ c. search needs) (λ c. search needs))

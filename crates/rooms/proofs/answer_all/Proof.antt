@@ -5,12 +5,7 @@ use borrow.Author.Needs.{needs}
 use Rattle.rooms.proofs.answer_all.Statement.{statement}
 use Rattle.rooms.proofs.answer_all.Tie as tie
 
-abbrev Inv-loop : tie.InvT-loop
-Inv-loop text page₀ at₀ page at = Unit {0}
-
-abbrev μ-loop : tie.MeasureT-loop
-μ-loop text page₀ at₀ page at = length text - at
-
 pub answer-all-spec : {M : Type 1} → statement M
-answer-all-spec = tie.close (tie.spec Inv-loop μ-loop (λ c. search needs) (λ c κs. search needs) (λ c. search needs) (λ c. search needs) (λ c. search needs) (λ c. search needs) (λ c κs. search needs) (λ c. search needs) (λ c. search needs) (λ c. search needs)
-    (λ c. search needs))
+answer-all-spec =
+    tie.close (tie.spec (λ text page₀ at₀ page at. Unit {0}) (λ text page₀ at₀ page at. length text - at) (λ c. search needs) (λ c κs. search needs) (λ c. search needs)
+    (λ c. search needs) (λ c. search needs) (λ c. search needs) (λ c κs. search needs) (λ c. search needs) (λ c. search needs) (λ c. search needs) (λ c. search needs))

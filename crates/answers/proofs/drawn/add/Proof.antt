@@ -22,19 +22,11 @@ Inv-loop ids values rows out₀ write n₀ count k₀ out n k =
 abbrev μ-loop : tie.MeasureT-loop
 μ-loop ids values rows out₀ write n₀ count k₀ out n k = count - k
 
-loop-again : tie.Need-loop-again Inv-loop μ-loop
-loop-again c =
-    let a = c .before .before .before .before .before .before .before .before .before .before .before .before .before .before .args in
-    let l = c .before .before .before .before .before .loop in
-    let w = added (c .before .before .row-line .ensures) in
-    (omega arith, w .size ∙ l .inv .1, rw (joined-more (l .k) (λ i. rowLine (decodeRow (rowOf (a .rows .now) i)))) (behind-more (l .inv .2) w))
-
-returns : tie.Need-returns Inv-loop μ-loop
-unfolding loweredBy
-returns c =
-    let l = c .before .loop in
-    let e : l .k ≡ length (c .before .before .before .before .before .before .before .before .before .before .args .rows .now) / rowBytes = omega arith in
-    said (l .inv .2 _ _ _ (c .before .before .before .before .add-slots .ensures)) (rw e)
-
 pub add-spec : {M : Type 1} → statement M
-add-spec = tie.close (tie.spec Inv-loop μ-loop (λ c κs. search needs) (λ c. (omega arith, refl, behind-none)) (λ c κs. search needs) (λ c. omega arith) (λ c. omega arith) loop-again (λ c. search needs) returns)
+unfolding loweredBy
+add-spec =
+    tie.close (tie.spec Inv-loop μ-loop (λ c κs. search needs) (λ c. (omega arith, refl, behind-none)) (λ c κs. search needs) (λ c. omega arith) (λ c. omega arith)
+    (λ c. let l = c .before .before .before .before .before .loop in let w = added (c .before .before .row-line .ensures) in
+    (omega arith, w .size ∙ l .inv .1, rw joined-more (behind-more (l .inv .2) w))) (λ c. search needs) (λ c. let l = c .before .loop in
+    let e : l .k ≡ length (c .before .before .before .before .before .before .before .before .before .before .args .rows .now) / rowBytes = omega arith in
+    said (l .inv .2 _ _ _ (c .before .before .before .before .add-slots .ensures)) (rw e)))

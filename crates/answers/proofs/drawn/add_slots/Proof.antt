@@ -22,20 +22,12 @@ Inv-loop ids values out₀ write n₀ count j₀ out n j =
 abbrev μ-loop : tie.MeasureT-loop
 μ-loop ids values out₀ write n₀ count j₀ out n j = count - j
 
-loop-again : tie.Need-loop-again Inv-loop μ-loop
-loop-again c =
-    let a = c .before .before .before .before .before .before .before .before .before .before .before .before .before .before .before .args in
-    let l = c .before .before .before .before .before .before .before .loop in
-    let w = added (c .before .before .slot-line .ensures) in
-    (omega arith, w .size ∙ l .inv .1, rw (joined-more (l .j) (λ k. slotLine (getD (a .ids .now) k 0) (getD (a .values .now) k nan))) (behind-more (l .inv .2) w))
-
-returns : tie.Need-returns Inv-loop μ-loop
-unfolding slotsBy
-returns c =
-    let l = c .before .loop in
-    let e : l .j ≡ length (c .before .before .before .before .before .before .before .before .before .args .ids .now) = omega arith in
-    said (l .inv .2 _ _ _ (added (c .before .before .before .before .lowered-line .ensures))) (rw e)
-
 pub add-slots-spec : {M : Type 1} → statement M
-add-slots-spec = tie.close (tie.spec Inv-loop μ-loop (λ c κs. search needs) (λ c. (omega arith, refl, behind-none)) (λ c. search needs) (λ c. search needs) (λ c. search needs) (λ c. search needs) (λ c κs. search needs) (λ c. omega arith) (λ c. omega arith)
-    loop-again (λ c. search needs) returns)
+unfolding slotsBy
+add-slots-spec =
+    tie.close (tie.spec Inv-loop μ-loop (λ c κs. search needs) (λ c. (omega arith, refl, behind-none)) (λ c. search needs) (λ c. search needs) (λ c. search needs)
+    (λ c. search needs) (λ c κs. search needs) (λ c. omega arith) (λ c. omega arith)
+    (λ c. let l = c .before .before .before .before .before .before .before .loop in let w = added (c .before .before .slot-line .ensures) in
+    (omega arith, w .size ∙ l .inv .1, rw joined-more (behind-more (l .inv .2) w))) (λ c. search needs)
+    (λ c. let l = c .before .loop in let e : l .j ≡ length (c .before .before .before .before .before .before .before .before .before .args .ids .now) = omega arith in
+    said (l .inv .2 _ _ _ (added (c .before .before .before .before .lowered-line .ensures))) (rw e)))

@@ -23,19 +23,11 @@ Inv-loop text records out₀ write n₀ count i₀ out n i =
 abbrev μ-loop : tie.MeasureT-loop
 μ-loop text records out₀ write n₀ count i₀ out n i = count - i
 
-loop-again : tie.Need-loop-again Inv-loop μ-loop
-loop-again c =
-    let a = c .before .before .before .before .before .before .before .before .before .before .before .before .before .args in
-    let l = c .before .before .before .before .before .loop in
-    let w = added (c .before .before .record-line .ensures) in
-    (omega arith, w .size ∙ l .inv .1, rw (joined-more (l .i) (λ k. lineOf (entryOf (a .text .now) (decodeAt (a .records .now) k)))) (behind-more (l .inv .2) w))
-
-returns : tie.Need-returns Inv-loop μ-loop
-unfolding listedBy
-returns c =
-    let l = c .before .loop in
-    let e : l .i ≡ countOf (c .before .before .before .before .before .before .before .before .before .args .records .now) = omega arith in
-    said (l .inv .2 _ _ _ (added (c .before .before .before .before .first-line .ensures))) (rw e)
-
 pub add-spec : {M : Type 1} → statement M
-add-spec = tie.close (tie.spec Inv-loop μ-loop (λ c κs. search needs) (λ c. (omega arith, refl, behind-none)) (λ c κs. search needs) (λ c. omega arith) (λ c. omega arith) loop-again (λ c. search needs) returns)
+unfolding listedBy
+add-spec =
+    tie.close (tie.spec Inv-loop μ-loop (λ c κs. search needs) (λ c. (omega arith, refl, behind-none)) (λ c κs. search needs) (λ c. omega arith) (λ c. omega arith)
+    (λ c. let l = c .before .before .before .before .before .loop in let w = added (c .before .before .record-line .ensures) in
+    (omega arith, w .size ∙ l .inv .1, rw joined-more (behind-more (l .inv .2) w))) (λ c. search needs) (λ c. let l = c .before .loop in
+    let e : l .i ≡ countOf (c .before .before .before .before .before .before .before .before .before .args .records .now) = omega arith in
+    said (l .inv .2 _ _ _ (added (c .before .before .before .before .first-line .ensures))) (rw e)))

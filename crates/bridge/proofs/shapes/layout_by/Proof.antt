@@ -4,9 +4,6 @@ use Rattle.bridge.specs.Given.{layoutBy}
 use Rattle.bridge.proofs.shapes.layout_by.Statement.{statement}
 use Rattle.bridge.proofs.shapes.layout_by.Tie as tie
 
-returns : tie.Need-returns
-unfolding layoutBy
-returns c = rw (← c .before .points-by .ensures, ← c .stage-by .ensures)
-
 pub layout-by-spec : {M : Type 1} → statement M
-layout-by-spec = tie.close (tie.spec (λ c κs. search needs) (λ c κs. search needs) returns)
+unfolding layoutBy
+layout-by-spec = tie.close (tie.spec (λ c κs. search needs) (λ c κs. search needs) (λ c. rw (← c .before .points-by .ensures, ← c .stage-by .ensures)))

@@ -1,12 +1,18 @@
 -- `lines::drawn::slot` meets its contract: its words are added one after the other. Assumes nothing.
 use borrow.Author.Needs.{needs}
-use Rattle.rail.proofs.Added.{added, both, said}
-use Rattle.lines.proofs.Telling.{slot-is}
+use Rattle.ground.specs.Words.{bytes}
+use Rattle.rail.proofs.Added.{added, both}
+use Rattle.lines.proofs.Spaced.{words-more}
+use Rattle.lines.specs.Drawn.{slotLine}
 use Rattle.lines.proofs.drawn.slot.Statement.{statement}
 use Rattle.lines.proofs.drawn.slot.Tie as tie
 
-returns : tie.Need-returns
-returns c = said (both (both (both (added (c .before .before .before .before .before .before .before .before .before .before .before .before .before .before .before .before .add .ensures)) (added (c .before .before .before .before .before .before .before .before .before .before .before .before .decimal-word .ensures))) (added (c .before .before .before .before .before .before .before .hex-word .ensures))) (added (c .before .before .add2 .ensures))) (slot-is _ _ _ (c .before .before .before .before .before .before .before .before .to-bits .ensures))
-
 pub slot-spec : {M : Type 1} → statement M
-slot-spec = tie.close (tie.spec (λ c. search needs) (λ c κs. search needs) (λ c κs. search needs) (λ c κs. search needs) (λ c κs. search needs) (λ c. search needs) (λ c κs. search needs) (λ c. search needs) returns)
+unfolding slotLine
+slot-spec =
+    tie.close (tie.spec (λ c. search needs) (λ c κs. search needs) (λ c κs. search needs) (λ c κs. search needs) (λ c κs. search needs) (λ c. search needs)
+    (λ c κs. search needs) (λ c. search needs)
+    (λ c. let f = c .before .before .before .before .before .before .before in let e = f .before .before .before .before .before in
+    rw (← f .before .to-bits .ensures)
+    (both (words-more (bytes "slot") _ _ (both (added (e .before .before .before .before .add .ensures)) (added (e .decimal-word .ensures)))
+    (added (f .hex-word .ensures))) (added (c .before .before .add2 .ensures)))))

@@ -1,45 +1,31 @@
 -- `lines::words::opening` meets its contract. The loop's invariant: whatever was added before it, the labels passed are added behind that.
 -- The measure is the count of labels left. Assumes nothing.
-use mathlib.Core.Path.{_≡_, refl, sym, _∙_}
-use mathlib.Core.List.{List, _++_, append-nil}
-use Prim.Native.Nat.{ℕ, _-_, _≤_}
+use mathlib.Core.Path.{_≡_, refl, _∙_}
+use Prim.Native.Nat.{_-_, _≤_}
 use native.Mathlib.Omega.{arith}
 use lib.ListN.{length}
 use borrow.Author.Needs.{needs}
 use Rattle.ground.specs.Lists.{upTo}
 use Rattle.record.specs.Entry.{named}
-use Rattle.rail.specs.declared.Place.{Place}
 use Rattle.rail.specs.Words.{spaced}
-use Rattle.rail.specs.Steps.{Adds}
-use Rattle.rail.proofs.Added.{added, both, said}
-use Rattle.lines.proofs.Spaced.{label-more}
+use Rattle.rail.proofs.Added.{said, added, Behind, behind-none, behind-more}
+use Rattle.ground.proofs.UpTo.{up-to-more}
+use Rattle.rail.proofs.Spaced.{spaced-append}
 use Rattle.lines.proofs.words.opening.Statement.{statement}
 use Rattle.lines.proofs.words.opening.Tie as tie
 
 abbrev Inv-loop : tie.InvT-loop
 Inv-loop text r buf₀ write n₀ count q₀ buf n q =
-    (q ≤ count) × (length buf ≡ length buf₀)
-    × ((d : List ℕ) (p : Place) (a : List ℕ) → Adds write d p a n₀ buf₀ → Adds write d p (a ++ spaced (upTo q (named text r))) n buf)
+    (q ≤ count) × (length buf ≡ length buf₀) × Behind write n₀ buf₀ (spaced (upTo q (named text r))) n buf
 
 abbrev μ-loop : tie.MeasureT-loop
 μ-loop text r buf₀ write n₀ count q₀ buf n q = count - q
 
-loop-holds : tie.Need-loop-holds Inv-loop μ-loop
-unfolding spaced
-loop-holds c = (omega arith, refl, λ d p a x. said x (sym (append-nil a)))
-
-loop-again : tie.Need-loop-again Inv-loop μ-loop
-loop-again c =
-    let a′ = c .before .before .before .before .before .before .before .before .before .before .before .before .before .before .args in
-    let l = c .before .before .before .before .before .loop in
-    let w = c .before .before .label-word .ensures in
-    (omega arith, w .size ∙ l .inv .1, λ d p a x. said (both (l .inv .2 d p a x) w) (label-more a (named (a′ .text .now) (a′ .r)) (l .q)))
-
-returns : tie.Need-returns Inv-loop μ-loop
-returns c =
-    let l = c .before .loop in
-    let e : l .q ≡ c .before .before .before .before .before .before .before .before .before .before .args .r .count = omega arith in
-    said (l .inv .2 _ _ _ (added (c .before .before .before .before .before .decimal .ensures))) (rw e)
-
 pub opening-spec : {M : Type 1} → statement M
-opening-spec = tie.close (tie.spec Inv-loop μ-loop (λ c. search needs) (λ c κs. search needs) (λ c. search needs) loop-holds (λ c κs. search needs) (λ c. omega arith) (λ c. omega arith) loop-again (λ c. search needs) returns)
+unfolding spaced
+opening-spec =
+    tie.close (tie.spec Inv-loop μ-loop (λ c. search needs) (λ c κs. search needs) (λ c. search needs) (λ c. (omega arith, refl, behind-none)) (λ c κs. search needs)
+    (λ c. omega arith) (λ c. omega arith) (λ c. let l = c .before .before .before .before .before .loop in let w = c .before .before .label-word .ensures in
+    (omega arith, w .size ∙ l .inv .1, rw (up-to-more, spaced-append) (behind-more (l .inv .2) w))) (λ c. search needs)
+    (λ c. let l = c .before .loop in let e : l .q ≡ c .before .before .before .before .before .before .before .before .before .before .args .r .count = omega arith in
+    said (l .inv .2 _ _ _ (added (c .before .before .before .before .before .decimal .ensures))) (rw e)))

@@ -10,9 +10,8 @@ use Rattle.lines.proofs.words.view_of.Tie as tie
 
 returns : tie.Need-returns
 returns c =
-    let labels = c .before .args .t1 in
-    let four : length labels ≡ labelPlaces = search needs in
-    sym (List·getD-eq-default labels noView (omega (arith, c .if1 .taken)))
+    let four : length (c .before .args .t1) ≡ labelPlaces = search needs in
+    sym (List·getD-eq-default (c .before .args .t1) noView (omega arith))
 
 pub view-of-spec : {M : Type 1} → statement M
 view-of-spec = tie.close (tie.spec returns (λ c. search needs) (λ c. search needs) (λ c. search needs))
