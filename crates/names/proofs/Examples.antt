@@ -27,6 +27,8 @@ page =
     ∷ one 25 "aU.radius"
     ∷ one 24 "q"
     ∷ one 24 "p"
+    ∷ one 24 "b0.a"
+    ∷ one 24 "b0.b"
     ∷ []
 
 abbrev answers : List ℕ
@@ -46,13 +48,18 @@ answers =
     ∷ nameIn page 28
     ∷ nameIn page 36
     ∷ nameIn page 21
-    -- guesses: of a point, of a radius, and of what nobody guesses
+    -- an arc's ends
+    ∷ nameIn page 44
+    ∷ nameIn page 48
+    -- guesses: of a point, of a radius, of an arc's ends, and of what nobody guesses
     ∷ guessIn page 0
     ∷ guessIn page 7
+    ∷ guessIn page 13
+    ∷ guessIn page 14
     ∷ guessIn page 6
     ∷ guessIn page 10
     ∷ []
 
-pub examples : answers ≡ 602 ∷ 602 ∷ 602 ∷ 8 ∷ 48 ∷ 88 ∷ 8 ∷ 88 ∷ 49 ∷ 93 ∷ 0 ∷ 0 ∷ 6 ∷ 8 ∷ 11 ∷ 11 ∷ []
+pub examples : answers ≡ 602 ∷ 602 ∷ 602 ∷ 8 ∷ 48 ∷ 88 ∷ 8 ∷ 88 ∷ 49 ∷ 93 ∷ 0 ∷ 0 ∷ 91 ∷ 92 ∷ 6 ∷ 8 ∷ 11 ∷ 12 ∷ 13 ∷ 13 ∷ []
 unfolding labelled lowestOr lowest hashFrom nameFor nameIn guessesPart
 examples = refl
