@@ -12,7 +12,7 @@ use Rattle.ground.proofs.Lists.{either-le}
 use Rattle.layout.specs.Slots.{sizeOf}
 use Rattle.layout.specs.declared.ShapeKind.the-variants.{Arc}
 use Rattle.row.specs.Row.{rowBytes}
-use Rattle.record.specs.Kinds.{firstRule, lastRule}
+use Rattle.kinds.specs.Kinds.{firstRule, lastRule}
 use Rattle.record.specs.Record.{mostRecords}
 use Rattle.record.specs.Entry.{Entry}
 use Rattle.names.specs.Labels.{kindNo, within}

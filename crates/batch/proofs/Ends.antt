@@ -2,25 +2,19 @@
 use mathlib.Core.Path.{_≡_, refl}
 use mathlib.Core.Bool.{not}
 use mathlib.Core.List.{List}
-use Prim.Native.Nat.{ℕ, _+_, _-_, _≤_, _<_}
+use Prim.Native.Nat.{ℕ, _+_, _≤_, _<_}
 use native.Mathlib.Numerals.{add-one}
 use native.Mathlib.Omega.{arith}
-use native.Mathlib.Decide.{decLe}
 use lib.Dec.{eqb}
 use lib.ListN.{length, getD, drop, drop-of-length-le}
 use lib.Seq.{drop-cons}
 use Rattle.ground.proofs.Lists.{either-le}
-use Rattle.text.proofs.Laws.{runTo-ahead, runTo-end}
-use Rattle.text.proofs.Within.{runTo-inside}
+use Rattle.text.proofs.Within.{runTo-within}
 use Rattle.batch.specs.Line.{untilOf, Until, wordAfter, oneDigit, numberFrom}
 
 -- a place that the search ends at lies ahead, and inside the text
 pub is-until : (s : List ℕ) (at b r : ℕ) → untilOf s at b ≡ r → Until s at b r
-is-until s at b r e = rw (← e) (record { place = refl; ahead = runTo-ahead _ s at; inside = inside (decLe at (length s)) })
-  where
-    inside : Dec (at ≤ length s) → untilOf s at b ≤ at + (length s - at)
-    inside (yes h) = omega (arith, runTo-inside (λ x. not (eqb x b)) s at h)
-    inside (no h) = omega (arith, runTo-end (λ x. not (eqb x b)) s at (omega arith))
+is-until s at b r e = let w = runTo-within (λ x. not (eqb x b)) s at in rw (← e) (record { place = refl; ahead = w .0; inside = omega (arith, w .1) })
 
 -- a byte moves on by at most a word
 pub word-le : (word i b r : ℕ) → r ≡ wordAfter word b → word ≤ i → r ≤ i + 1

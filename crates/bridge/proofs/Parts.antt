@@ -10,10 +10,11 @@ use lib.ListN.{length, take, drop, take-append-drop}
 use lib.Seq.{take-all, take-append-seam}
 use borrow.Author.Tests.{ne-eqb, lt-ltb, lt-leb}
 use Rattle.refusal.proofs.Says.{says-and, says-lt}
-use Rattle.record.specs.Record.{recordBytes, labelPlaces}
+use Rattle.kinds.specs.Kinds.{labelPlaces}
+use Rattle.record.specs.Record.{recordBytes}
 use Rattle.record.specs.Decode.{decode, decodeAt}
 use Rattle.record.specs.Entry.{part, viewOf, named}
-use Rattle.record.specs.Ask.{labelOf}
+use Rattle.ask.specs.Ask.{labelOf}
 use Rattle.record.proofs.Agree.{says-good}
 use Rattle.layout.specs.Refusals.{impossible}
 use Rattle.bridge.specs.Told.{startTold}

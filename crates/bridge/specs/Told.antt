@@ -8,17 +8,17 @@ use lib.Dec.{eqb, leb}
 use lib.ListN.{length}
 use lib.Ieee.{Float, binary64, toBits}
 use Rattle.bridge.specs.declared.told.Told.{Told}
+use Rattle.kinds.specs.Kinds.{labelPlaces}
 use Rattle.record.specs.Decode.{decodeAt}
 use Rattle.record.specs.Entry.{Label, viewOf}
-use Rattle.record.specs.Record.{labelPlaces}
 use Rattle.reader.specs.declared.Reading.{Reading}
 use Rattle.reader.specs.declared.Reading.the-variants as reading
 use Rattle.drawing.specs.declared.Checked.{Checked}
 use Rattle.drawing.specs.declared.Checked.the-variants as checked
-use Rattle.record.specs.declared.ask.Angle.{Angle}
-use Rattle.record.specs.declared.ask.Angle.the-variants.{Degrees, Radians}
-use Rattle.record.specs.declared.ask.Asked.{Asked}
-use Rattle.record.specs.declared.ask.Asked.the-variants as asked
+use Rattle.ask.specs.declared.Angle.{Angle}
+use Rattle.ask.specs.declared.Angle.the-variants.{Degrees, Radians}
+use Rattle.ask.specs.declared.Asked.{Asked}
+use Rattle.ask.specs.declared.Asked.the-variants as asked
 use Rattle.lowering.specs.declared.Lowered.{Lowered}
 use Rattle.lowering.specs.declared.Lowered.the-variants as lowered
 use Rattle.layout.specs.declared.Layout.{Layout}

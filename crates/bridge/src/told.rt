@@ -1,13 +1,13 @@
 // The answers about pages and records as a code and six numbers.
 use crate::PARTS;
+use ask::Angle;
+use ask::Asked;
 use bits::to_bits;
 use drawing::Checked;
 use layout::Layout;
 use layout::Stage;
 use lowering::Lowered;
 use reader::Reading;
-use record::ask::Angle;
-use record::ask::Asked;
 use refusal::Refusal;
 ghost use mathlib.Core.Path.{_≡_};
 ghost use Rattle.layout.specs.Slots.{stageNumber};

@@ -6,7 +6,7 @@ use Prim.Native.String.{String}
 use lib.ListN.{length}
 use Rattle.ground.specs.Words.{bytes}
 use Rattle.refusal.specs.Refusal.{refusal}
-use Rattle.record.specs.Kinds.{pairGuess}
+use Rattle.kinds.specs.Kinds.{pairGuess}
 use Rattle.record.specs.Entry.{Entry}
 use Rattle.reader.specs.declared.Reading.{Reading}
 use Rattle.reader.specs.declared.Reading.the-variants as reading

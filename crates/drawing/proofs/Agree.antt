@@ -7,7 +7,7 @@ use lib.ListN.{length}
 use Rattle.refusal.specs.First.{passed, refused, Nowhere, Told}
 use Rattle.refusal.proofs.Says.{Says, says-not, says-and, says-or, says-never, says-iff, says-eq, says-any}
 use Rattle.refusal.proofs.Right.{refused-iff, passed-iff}
-use Rattle.record.specs.Kinds.{kindAt, newPoint, newArc, pairGuess, numberGuess}
+use Rattle.kinds.specs.Kinds.{kindAt, newPoint, newArc, pairGuess, numberGuess}
 use Rattle.record.specs.Entry.{Label, Entry, entryAt, labelNo}
 use Rattle.record.specs.Formed.{places}
 use Rattle.record.proofs.Told.{says-malformed}

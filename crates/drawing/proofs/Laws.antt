@@ -7,8 +7,8 @@ use native.Mathlib.Omega.{arith}
 use Rattle.ground.proofs.Lists.{either-le}
 use Rattle.refusal.specs.First.{EachBelow, anyBelow}
 use Rattle.refusal.proofs.Says.{refuted, says-so, says-any}
-use Rattle.record.specs.Kinds.{kinds, kindAt, labelsColumn, table, cell}
-use Rattle.record.proofs.Cells.{labels-is}
+use Rattle.kinds.specs.Kinds.{kinds, kindAt, labelsColumn, table, cell}
+use Rattle.kinds.proofs.Cells.{labels-is}
 use Rattle.names.specs.Labels.{within}
 use Rattle.drawing.specs.Check.{countBelow}
 

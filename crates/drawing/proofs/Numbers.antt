@@ -11,10 +11,10 @@ use Rattle.ground.proofs.Lists.{and-first, and-second, all, all-at}
 use Rattle.refusal.specs.First.{EachBelow, allBelow, first}
 use Rattle.refusal.proofs.Says.{Says, fails, stable, says-and, says-or, says-not, says-if, says-never, says-iff, says-eq, says-le, says-lt, says-once, says-so, says-any, says-all}
 use Rattle.refusal.proofs.Alike.{any-alike, none-alike, first-alike}
-use Rattle.record.specs.Kinds.{kinds, kindAt, Declaration, Guess, newPoint, newArc, firstRule, lastRule, pairGuess, numberGuess}
+use Rattle.kinds.specs.Kinds.{kinds, kindAt, Declaration, Guess, newPoint, newArc, firstRule, lastRule, pairGuess, numberGuess}
 use Rattle.record.specs.Record.{mostRecords}
 use Rattle.record.specs.Entry.{Label, Entry, entryAt, labelNo}
-use Rattle.record.proofs.Table.{few-labels, declared-label, guess-label}
+use Rattle.kinds.proofs.Table.{few-labels, declared-label, guess-label}
 use Rattle.names.specs.Labels.{kindNo, nameNo, same, within, labelled, lowestOr}
 use Rattle.names.specs.Cut.{stem, Pointless, knownParts, partNo, KnownPart}
 use Rattle.names.specs.Names.{declarer, perKind, perRecord, nameFor, nameAt, namesOf, sortBy, recordBy, placeBy, guessesOf, Clear}

@@ -3,20 +3,20 @@ use mathlib.Core.Path.{_≡_, refl, sym, ap, _∙_, subst}
 use mathlib.Core.Bool.{Bool, false}
 use mathlib.Core.Option.{Option, none, some}
 use mathlib.Core.List.{List, [], _∷_, map}
-use Prim.Native.Nat.{ℕ, zero, suc, _≤_, _<_}
-use native.Mathlib.Nat.{le-refl, not-suc-le-zero}
+use Prim.Native.Nat.{ℕ, suc, _≤_, _<_}
+use native.Mathlib.Nat.{le-refl}
 use native.Mathlib.Omega.{arith}
 use lib.ListN.{length, getD, List·getD-eq-default}
 use Rattle.ground.proofs.Pieces.{Each}
 use Rattle.refusal.specs.declared.Refusal.{Refusal}
 use Rattle.refusal.specs.Refusal.{refusal}
-use Rattle.refusal.specs.First.{passed, refused, tell, first, lowest, orElse}
+use Rattle.refusal.specs.First.{passed, refused, tell, first, lowest}
 use Rattle.refusal.specs.Worst.{rankAt, Worst, worst, ranked}
-use Rattle.refusal.proofs.Search.{none-iff}
-use Rattle.refusal.proofs.ByPlaces.{by-places}
+use Rattle.refusal.proofs.Search.{none-iff, lowest-last}
+use Rattle.refusal.proofs.ByPlaces.{by-places, at-rank, past-rank}
 use Rattle.record.specs.declared.formed.Formed.{Formed}
 use Rattle.record.specs.declared.formed.Formed.the-variants as formed
-use Rattle.record.specs.Kinds.{newPoint, newCircle, newArc, firstRule, lastRule}
+use Rattle.kinds.specs.Kinds.{newPoint, newCircle, newArc, firstRule, lastRule}
 use Rattle.record.specs.Decode.{countOf, decodeAt}
 use Rattle.record.specs.Entry.{Entry, noEntry}
 use Rattle.record.specs.Formed.{WellFormed, entries, Malformed, places, malformedTest, verdict, formedOf}
@@ -34,24 +34,13 @@ use Rattle.drawing.proofs.Laws.{count-kinds}
 
 -- ---- one pass
 
--- a rank that is one of the order's tells its fault, with its number, and one past the last tells nothing
-at-rank : (order : List Fault) (k i : ℕ) → k < length order → (f : Fault) × (ranked order k i ≡ refused f i) × (getD (map numberOf order) k 0 ≡ numberOf f)
-at-rank [] k i h = absurd (not-suc-le-zero h)
-at-rank (f ∷ order) zero i h = (f, refl, refl)
-at-rank (f ∷ order) (suc k) i h = at-rank order k i (omega arith)
-
-past-rank : (order : List Fault) (k i : ℕ) → length order ≤ k → ranked order k i ≡ passed
-past-rank [] k i h = refl
-past-rank (f ∷ order) zero i h = absurd (not-suc-le-zero h)
-past-rank (f ∷ order) (suc k) i h = past-rank order k i (omega arith)
-
 -- what the pass found
 module _ (t : Fault → ℕ → Bool) (n rank place : ℕ) (e : record { rank = rank; place = place } ≡ worst (length behind30) (rankAt behind30 t) n) where
   told-by : first behind30 t n ≡ ranked behind30 rank place
   told-by = by-places t n behind30 ∙ ap (λ (w : Worst). ranked behind30 (w .rank) (w .place)) (sym e)
 
   pub found : rank < length behind30 → (f : Fault) × (first behind30 t n ≡ refused f place) × (getD (map numberOf behind30) rank 0 ≡ numberOf f)
-  found h = let (f, is, number) = at-rank behind30 rank place h in (f, told-by ∙ is, number)
+  found h = let (f, is, number) = at-rank numberOf behind30 rank place h in (f, told-by ∙ is, number)
 
   pub found-none : length behind30 ≤ rank → first behind30 t n ≡ passed
   found-none h = told-by ∙ past-rank behind30 rank place h
@@ -60,14 +49,6 @@ module _ (t : Fault → ℕ → Bool) (n rank place : ℕ) (e : record { rank = 
 
 past : (es : List Entry) → kindNo es (length es) ≡ 0
 past es = ap (λ (e : Entry). e .kind) (List·getD-eq-default es noEntry (le-refl (length es)))
-
-or-none : (o : Option ℕ) → orElse o none ≡ o
-or-none (some i) = refl
-or-none none = refl
-
-lowest-last : (n : ℕ) (p : ℕ → Bool) → p n ≡ false → lowest (suc n) p ≡ lowest n p
-unfolding lowest
-lowest-last n p e = rw e (or-none (lowest n p))
 
 -- an order whose faults hold not at the last place is told without it
 first-last : (order : List Fault) (t : Fault → ℕ → Bool) (n : ℕ) → Each (λ f. t f n ≡ false) order → first order t (suc n) ≡ first order t n

@@ -4,15 +4,12 @@ use mathlib.Core.Logic.{⊎-elim}
 use mathlib.Core.Bool.{Bool, true, false, not, cond, or-false}
 use mathlib.Core.List.{List, []}
 use Prim.Native.Nat.{ℕ, zero, suc, _+_, _<_}
-use native.Mathlib.Numerals.{add-one}
 use native.Mathlib.Omega.{arith}
 use lib.ListN.{List·getD-eq-default}
 use borrow.Author.Tests.{ne-eqb}
 use Rattle.ground.proofs.Lists.{NoneFrom, none-from}
-use Rattle.refusal.specs.Worst.{Worst, worse, worst}
-use Rattle.record.specs.Kinds.{table, cell, needsColumn, Declaration, newPoint, newCircle, newArc}
-use Rattle.record.specs.Record.{labelPlaces}
-use Rattle.record.proofs.Cells.{looked, needs-is}
+use Rattle.kinds.specs.Kinds.{table, cell, needsColumn, Declaration, newPoint, newCircle, newArc, labelPlaces}
+use Rattle.kinds.proofs.Cells.{looked, needs-is}
 use Rattle.names.specs.Names.{sortBy}
 use Rattle.drawing.specs.Needs.{Shape, point, circle, arc, declaring, parts, Need, needs, needOf, needAt}
 use Rattle.drawing.specs.Numbers.{bySort, nameBy, wrongName, anyLacking, partLacking}
@@ -62,7 +59,3 @@ ranks false false true d e = refl
 ranks false false false true e = refl
 ranks false false false false true = refl
 ranks false false false false false = refl
-
--- one place more
-pub worst-more : (top : ℕ) (ranks : ℕ → ℕ) (i r : ℕ) (w v : Worst) → w ≡ worst top ranks i → r ≡ ranks i → v ≡ worse r i w → v ≡ worst top ranks (i + 1)
-worst-more top ranks i r w v ew er ev = ev ∙ rw (ew, er, add-one i) refl

@@ -15,14 +15,13 @@ use Rattle.refusal.proofs.Says.{says-so, says-all, stable}
 use Rattle.refusal.proofs.Right.{passed-iff}
 use Rattle.text.specs.Text.{isAlphanum}
 use Rattle.record.specs.declared.Record.{Record}
-use Rattle.record.specs.Kinds.{kinds, kindAt, newArc, lastRule, Declaration, Rule, Guess}
-use Rattle.record.specs.Record.{labelPlaces}
+use Rattle.kinds.specs.Kinds.{kinds, kindAt, newArc, lastRule, Declaration, Rule, Guess, labelPlaces}
 use Rattle.record.specs.Decode.{decode, countOf, recordOf}
 use Rattle.record.specs.Entry.{Label, Entry, entryAt, labelNo, named, entryOf}
 use Rattle.record.specs.Sound.{Plain, Spelled}
 use Rattle.record.specs.Laid.{LaidOut}
 use Rattle.record.specs.Formed.{WellFormed}
-use Rattle.record.proofs.Table.{few-labels, declared-label, guess-label}
+use Rattle.kinds.proofs.Table.{few-labels, declared-label, guess-label}
 use Rattle.record.proofs.Laid.{laid-formed}
 use Rattle.names.specs.Labels.{drawn, kindNo, nameNo, same}
 use Rattle.names.specs.Cut.{Pointless, partNo, KnownPart}

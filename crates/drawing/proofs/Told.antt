@@ -2,12 +2,12 @@
 use mathlib.Core.Path.{_≡_, refl, sym, ap, _∙_}
 use mathlib.Core.Logic.{_↔_}
 use mathlib.Core.List.{List}
-use Prim.Native.Nat.{ℕ, _-_}
+use Prim.Native.Nat.{ℕ}
 use native.Mathlib.Omega.{arith}
 use Rattle.refusal.specs.declared.Refusal.{Refusal}
 use Rattle.refusal.specs.Refusal.{refusal, byNumber}
 use Rattle.refusal.specs.First.{Answer, passed, refused, Nowhere, Told}
-use Rattle.record.specs.Kinds.{newPoint, newCircle, newArc, firstRule, lastRule}
+use Rattle.kinds.specs.Kinds.{newPoint, newCircle, newArc, firstRule, lastRule}
 use Rattle.record.specs.Entry.{Entry}
 use Rattle.record.specs.Formed.{places}
 use Rattle.drawing.specs.declared.Checked.the-variants as checked

@@ -6,7 +6,7 @@ use lib.Dec.{eqb}
 use lib.ListN.{length}
 use Rattle.refusal.specs.Refusal.{refusal}
 use Rattle.refusal.specs.First.{anyBelow, Answer, passed, refused, first}
-use Rattle.record.specs.Kinds.{kindAt, newPoint, newCircle, newArc, firstRule, lastRule, pairGuess, numberGuess}
+use Rattle.kinds.specs.Kinds.{kindAt, newPoint, newCircle, newArc, firstRule, lastRule, pairGuess, numberGuess}
 use Rattle.record.specs.Entry.{Label, Entry, entryAt, labelNo}
 use Rattle.record.specs.Formed.{places, malformedTest}
 use Rattle.names.specs.Labels.{kindNo, nameNo, same, within, labelled}

@@ -5,7 +5,7 @@ use mathlib.Core.List.{List, [], _∷_, _++_}
 use Prim.Native.Nat.{ℕ}
 use lib.ListN.{length}
 use Rattle.refusal.specs.First.{SomeBelow}
-use Rattle.record.specs.Kinds.{kindAt, Declaration, Rule, Guess}
+use Rattle.kinds.specs.Kinds.{kindAt, Declaration, Rule, Guess}
 use Rattle.record.specs.Entry.{Label, Entry, entryAt, labelNo}
 use Rattle.record.specs.Formed.{Malformed}
 use Rattle.names.specs.Labels.{kindNo, nameNo}

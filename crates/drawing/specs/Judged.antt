@@ -8,7 +8,7 @@ use Rattle.refusal.specs.Refusal.{refusal}
 use Rattle.refusal.specs.First.{Answer, passed, refused, first}
 use Rattle.record.specs.declared.formed.Formed.{Formed}
 use Rattle.record.specs.declared.formed.Formed.the-variants as formed
-use Rattle.record.specs.Kinds.{newPoint, newCircle, newArc, firstRule, lastRule}
+use Rattle.kinds.specs.Kinds.{newPoint, newCircle, newArc, firstRule, lastRule}
 use Rattle.record.specs.Record.{mostRecords}
 use Rattle.record.specs.Decode.{countOf, decodeAt}
 use Rattle.record.specs.Formed.{entries, formedOf}

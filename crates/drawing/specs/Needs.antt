@@ -5,7 +5,7 @@ use Prim.Native.Nat.{ℕ}
 use lib.Dec.{eqb}
 use lib.ListN.{getD}
 use Rattle.ground.specs.Words.{bytes}
-use Rattle.record.specs.Kinds.{kindAt, newPoint, newCircle, newArc, pairGuess, numberGuess}
+use Rattle.kinds.specs.Kinds.{kindAt, newPoint, newCircle, newArc, pairGuess, numberGuess}
 use Rattle.record.specs.Entry.{Label}
 
 -- ---- shapes and their parts

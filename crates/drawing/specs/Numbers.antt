@@ -6,8 +6,7 @@ use Prim.Native.Nat.{ℕ, _+_, _*_}
 use lib.Dec.{leb, ltb, eqb}
 use lib.ListN.{length, getD}
 use Rattle.refusal.specs.First.{anyBelow}
-use Rattle.record.specs.Kinds.{kindAt, newPoint, newArc, firstRule, lastRule, pairGuess, numberGuess}
-use Rattle.record.specs.Record.{labelPlaces}
+use Rattle.kinds.specs.Kinds.{kindAt, newPoint, newArc, firstRule, lastRule, pairGuess, numberGuess, labelPlaces}
 use Rattle.record.specs.Decode.{countOf, decodeAt}
 use Rattle.record.specs.Entry.{Label, Entry}
 use Rattle.names.specs.Labels.{kindNo, within}

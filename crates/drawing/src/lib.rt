@@ -14,6 +14,12 @@ ghost use Rattle.drawing.specs.Judged.{thirtyOr, countIn, judgedOf};
 use faults::FAULTS;
 use faults::among;
 use faults::worst;
+use kinds::FIRST_RULE;
+use kinds::KINDS;
+use kinds::LAST_RULE;
+use kinds::NEW_ARC;
+use kinds::NEW_CIRCLE;
+use kinds::NEW_POINT;
 use names::GUESSES;
 use names::NAMES;
 use names::labels::kind_at;
@@ -23,12 +29,6 @@ use record::SIZE;
 use record::formed::Formed;
 use record::formed::MALFORMED;
 use record::formed::well_formed;
-use record::kinds::FIRST_RULE;
-use record::kinds::KINDS;
-use record::kinds::LAST_RULE;
-use record::kinds::NEW_ARC;
-use record::kinds::NEW_CIRCLE;
-use record::kinds::NEW_POINT;
 use refusal::Refusal;
 
 // The numbers of the faults behind 30, in the order in which they are told.

@@ -23,7 +23,7 @@ use Rattle.text.specs.declared.ReadLabel.{ReadLabel}
 use Rattle.text.proofs.Stand.{the-type}
 use Rattle.text.proofs.Laws.{runTo-stop, runTo-end}
 use Rattle.number.specs.Number.{numberOn, exprOn}
-use Rattle.record.specs.Kinds.{newPoint, newCircle, fixComponent, fixCenter, wordOf}
+use Rattle.kinds.specs.Kinds.{newPoint, newCircle, fixComponent, fixCenter, wordOf}
 use Rattle.record.specs.declared.Record.{Record}
 use Rattle.forms.specs.Forms.{Lines, noLine, lineThen, orLine, aroundOn, eitherOn, pairOn, declareOn, fixedOn, assignOn, moreOn, angleOn, amountOn, gapOn, keywordOn, keywordKinds, firstOf, labelFormsOn, instructionOn, guessedOn, guessOn, lineOn}
 use Rattle.forms.specs.Steps.{assignedOn, behindOn, declarationOn, opens, noneBegins}

@@ -18,9 +18,9 @@ use Rattle.forms.proofs.Begin.{line-nowhere}
 module _ (s : List ℕ) where
   -- ---- a line that follows ends further on
 
-  newline-in : (at : ℕ) → In (at + 1) (newlineOn s (At at))
+  newline-in : (at : ℕ) → In s (at + 1) (newlineOn s (At at))
   unfolding byteOn wordAt
-  newline-in at = cond-of (In (at + 1)) (starts (10 ∷ []) (drop at s)) _ _ (λ e. record { is = omega arith }) (λ e. record { is = tt })
+  newline-in at = cond-of (In s (at + 1)) (starts (10 ∷ []) (drop at s)) _ _ (λ e. record { is = (omega arith, omega arith) }) (λ e. record { is = tt })
 
   -- ---- what follows by another count
 
@@ -43,7 +43,7 @@ module _ (s : List ℕ) where
       let l = lineOn g s (newlineOn s (At at)) in
       rw e (same-from (l .then) _ _ _
       (λ next i.
-      let after : In (at + 1) (At next) = rw i at (line-kept (kept-in s (at + 1)) g (newline-in at)) in
+      let after : In s (at + 1) (At next) = rw i at (line-kept (kept-in s (at + 1)) g (newline-in at)) in
       ap (followedBy (l .records)) (enough m g next k (omega (arith, after .is)))))
 
 -- the text has as many bytes as lines may follow, and more make no difference

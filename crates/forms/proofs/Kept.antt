@@ -10,12 +10,12 @@ use Rattle.text.specs.Text.{from, isSpace, noLabel, wsOn, wordOn, byteOn, label
 use Rattle.text.specs.declared.Stand.{Stand}
 use Rattle.text.specs.declared.Stand.the-variants.{Nothing}
 use Rattle.text.specs.declared.ReadLabel.{ReadLabel}
-use Rattle.text.proofs.Laws.{runTo-ahead, from-of, either-of, cond-of}
-use Rattle.text.proofs.Within.{Ahead, word-ahead, label-ahead}
+use Rattle.text.proofs.Laws.{from-of, either-of, cond-of}
+use Rattle.text.proofs.Within.{Within, runTo-within, wordAt-within, labelAt-within}
 use Rattle.number.specs.Number.{noNumber, numberOn, depth, exprOn}
 use Rattle.number.specs.declared.Number.{Number}
 use Rattle.number.proofs.Within.{numberAt-read, exprAt-read}
-use Rattle.record.specs.Kinds.{newPoint, newCircle, newArc, fixComponent, fixCenter, kindAt, wordOf, numberless, number, expression}
+use Rattle.kinds.specs.Kinds.{newPoint, newCircle, newArc, fixComponent, fixCenter, kindAt, wordOf, numberless, number, expression}
 use Rattle.record.specs.Decode.{isGuess}
 use Rattle.record.specs.Sound.{fieldsTest}
 use Rattle.forms.specs.declared.pieces.Amount.{Amount}
@@ -32,19 +32,19 @@ pub record Kept (s : List ℕ) (P : Stand → Type 0) : Type 0 where
   pub number : {t : Stand} → P t → P (numberOn s t .then)
   pub expr : {t : Stand} → P t → P (exprOn s t .then)
 
--- they do so where P is kept by all that is read from a place on and goes on from there
+-- they do so where P is kept by all that is read from a place on, goes on from there and stays in the text
 pub kept-of : {s : List ℕ} {P : Stand → Type 0} → P Nothing → ((X : Type 0) (then : X → Stand) (t : Stand) (rest : X) (read : ℕ → X)
-    → ((n : ℕ) → Ahead n (then (read n))) → P (then rest) → P t → P (then (from t rest read))) → Kept s P
+    → ((n : ℕ) → Within s n (then (read n))) → P (then rest) → P t → P (then (from t rest read))) → Kept s P
 unfolding wsOn wordOn byteOn labelOn numberOn exprOn
 kept-of {s} nothing on =
     record {
       nothing = nothing;
-      ws = λ {t} h. on Stand (λ u. u) t t _ (runTo-ahead isSpace s) h h;
-      word = λ {t} w h. on Stand (λ u. u) t t _ (word-ahead s w) h h;
-      byte = λ {t} b h. on Stand (λ u. u) t t _ (word-ahead s (b ∷ [])) h h;
-      label = λ {t} h. on ReadLabel (λ l. l .then) t (noLabel t) _ (label-ahead s) h h;
-      number = λ {t} h. on Number (λ n. n .then) t (noNumber t) _ (λ n. numberAt-read s n .ahead) h h;
-      expr = λ {t} h. on Number (λ n. n .then) t (noNumber t) _ (λ n. exprAt-read s depth n .ahead) h h;
+      ws = λ {t} h. on Stand (λ u. u) t t _ (runTo-within isSpace s) h h;
+      word = λ {t} w h. on Stand (λ u. u) t t _ (wordAt-within s w) h h;
+      byte = λ {t} b h. on Stand (λ u. u) t t _ (wordAt-within s (b ∷ [])) h h;
+      label = λ {t} h. on ReadLabel (λ l. l .then) t (noLabel t) _ (labelAt-within s) h h;
+      number = λ {t} h. on Number (λ n. n .then) t (noNumber t) _ (λ n. numberAt-read s n .within) h h;
+      expr = λ {t} h. on Number (λ n. n .then) t (noNumber t) _ (λ n. exprAt-read s depth n .within) h h;
     }
 
 -- a kind that is declared by a plain label alone, as the table has it

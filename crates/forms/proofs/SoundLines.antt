@@ -20,8 +20,8 @@ use Rattle.text.specs.declared.ReadLabel.{ReadLabel}
 use Rattle.text.proofs.Laws.{Reached, here, either-of, cond-of}
 use Rattle.number.specs.Number.{numberOn}
 use Rattle.number.proofs.Within.{number-fits, expr-fits}
-use Rattle.record.specs.Kinds.{fixComponent, fixCenter, kindAt, wordOf, numberless, number, expression}
-use Rattle.record.specs.Record.{labelPlaces, firstGuess}
+use Rattle.kinds.specs.Kinds.{fixComponent, fixCenter, kindAt, wordOf, numberless, number, expression, labelPlaces}
+use Rattle.record.specs.Record.{firstGuess}
 use Rattle.record.specs.Decode.{isGuess}
 use Rattle.record.specs.Entry.{noView, viewOf, part, entryOf}
 use Rattle.record.specs.Sound.{Spelled, Placed, Sound, fieldsTest}

@@ -1,5 +1,5 @@
--- Three things that every form keeps: reading stands at no place where it stood at none; it never goes back; and where nothing was read,
--- nothing is read. Assumes nothing.
+-- Three things that every form keeps: reading stands at no place where it stood at none; it stands inside the text, and never goes back; and where
+-- nothing was read, nothing is read. Assumes nothing.
 use mathlib.Core.Path.{_≡_, refl}
 use mathlib.Core.List.{List, [], _∷_}
 use Prim.Native.Nat.{ℕ}
@@ -10,7 +10,7 @@ use Rattle.text.specs.declared.Stand.{Stand}
 use Rattle.text.specs.declared.Stand.the-variants.{Nothing}
 use Rattle.text.proofs.Stand.{the-type}
 use Rattle.text.proofs.Laws.{handed, Reached, here, from-of, either-of}
-use Rattle.text.proofs.Within.{Ahead, ahead-of}
+use Rattle.text.proofs.Within.{Within, within-of}
 use Rattle.record.specs.declared.Record.{Record}
 use Rattle.forms.specs.Forms.{lineThen, noLine}
 use Rattle.forms.proofs.Kept.{Kept, kept-of}
@@ -34,16 +34,14 @@ pub due-behind : {t : Stand} (before read : Stand) (number : ℕ) → Behind t r
 due-behind {t} before read number f =
     either-of (Behind t) read _ _ f (from-of (Behind t) before _ _ (record { back = λ h. absurd (h .is) }) (λ n e. record { back = λ h. absurd (h .is) }))
 
--- ---- further on
+-- ---- inside the text
 
--- reading stands at p or behind it, if at a place
-pub record In (p : ℕ) (t : Stand) : Type 0 where
-  pub is : Ahead p t
+-- reading stands within p, if at a place
+pub record In (s : List ℕ) (p : ℕ) (t : Stand) : Type 0 where
+  pub is : Within s p t
 
-pub kept-in : (s : List ℕ) (p : ℕ) → Kept s (In p)
-kept-in s p =
-    kept-of (record { is = tt })
-    (λ X then u rest read a f g. record { is = from-of (λ x. Ahead p (then x)) u rest read (f .is) (λ n e. ahead-of (then (read n)) (rw e at (g .is)) (a n)) })
+pub kept-in : (s : List ℕ) (p : ℕ) → Kept s (In s p)
+kept-in s p = kept-of (record { is = tt }) (λ X then u rest read a f g. record { is = within-of s p then u rest read a (f .is) (g .is) })
 
 -- ---- nothing read
 
@@ -54,7 +52,3 @@ kept-nothing s = kept-of refl (λ X then u rest read a f e. rw e f)
 
 pub halted : (t : Stand) (rs : List Record) → OneOf (1 ∷ 2 ∷ []) (tagOf the-type t) → lineThen rs t ≡ noLine t
 halted t rs h = rw (← handed t [] (λ next. rs) h)
-
--- a line by its records and its end
-pub line-of : {rs rs′ : List Record} {t t′ : Stand} → rs ≡ rs′ → t ≡ t′ → lineThen rs t ≡ lineThen rs′ t′
-line-of e f = rw (e, f)

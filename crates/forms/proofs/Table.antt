@@ -9,8 +9,8 @@ use lib.ListN.{length, getD, take, length-append}
 use lib.Seq.{take-at}
 use borrow.Author.Tests.{leb-true}
 use Rattle.ground.proofs.Lists.{getD-inside, all-at}
-use Rattle.record.specs.declared.kinds.Word.{Word}
-use Rattle.record.specs.Kinds.{wordOf, inField}
+use Rattle.kinds.specs.declared.Word.{Word}
+use Rattle.kinds.specs.Kinds.{wordOf, inField}
 use Rattle.forms.specs.Forms.{keywordKinds}
 
 -- a word is no longer than its field, and its field begins with it

@@ -13,7 +13,7 @@ use Rattle.text.specs.Text.{starts, wordAt, wsOn, wordOn, labelOn}
 use Rattle.text.specs.declared.Stand.{Stand}
 use Rattle.text.specs.declared.Stand.the-variants.{At, Nothing}
 use Rattle.text.proofs.Laws.{starts-more, starts-stop, starts-short}
-use Rattle.record.specs.Kinds.{wordOf, padded, begins}
+use Rattle.kinds.specs.Kinds.{wordOf, padded, begins}
 use Rattle.forms.specs.Forms.{noLine, declareOn, keywordOn}
 use Rattle.forms.proofs.Kept.{keyword-kept}
 use Rattle.forms.proofs.Stands.{kept-nothing}

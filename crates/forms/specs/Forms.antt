@@ -11,7 +11,7 @@ use Rattle.text.specs.declared.Stand.the-variants.{Nothing}
 use Rattle.text.specs.declared.ReadLabel.{ReadLabel}
 use Rattle.number.specs.Number.{numberOn, exprOn}
 use Rattle.number.specs.declared.Number.{Number}
-use Rattle.record.specs.Kinds.{newPoint, newCircle, newArc, fixComponent, fixCenter, pairGuess, numberGuess, kindAt, wordOf, numberless, number, expression}
+use Rattle.kinds.specs.Kinds.{newPoint, newCircle, newArc, fixComponent, fixCenter, pairGuess, numberGuess, kindAt, wordOf, numberless, number, expression}
 use Rattle.record.specs.Record.{oneLabel}
 use Rattle.record.specs.Decode.{noRecord}
 use Rattle.record.specs.declared.View.{View}

@@ -10,7 +10,7 @@ use Rattle.text.specs.Text.{refusedAt}
 use Rattle.text.specs.declared.Stand.{Stand}
 use Rattle.text.specs.declared.Stand.the-variants.{At}
 use Rattle.text.specs.declared.ReadLabel.{ReadLabel}
-use Rattle.record.specs.Kinds.{newPoint, newCircle, newArc, fixComponent, fixCenter, wordOf}
+use Rattle.kinds.specs.Kinds.{newPoint, newCircle, newArc, fixComponent, fixCenter, wordOf}
 use Rattle.record.specs.declared.Record.{Record}
 use Rattle.forms.specs.declared.pieces.Parsed.{Parsed}
 use Rattle.forms.specs.declared.declarations.Declared.{Declared}

@@ -4,12 +4,11 @@ ghost use Prim.Native.Nat.{_≤_};
 ghost use lib.ListN.{length};
 ghost use Rattle.text.specs.Text.{wsOn, labelOn};
 ghost use Rattle.text.specs.declared.Stand.the-variants.{At};
-ghost use Rattle.record.specs.Kinds.{wordOf};
+ghost use Rattle.kinds.specs.Kinds.{wordOf};
 ghost use Rattle.forms.specs.Forms.{declareOn};
 ghost use Rattle.forms.specs.Steps.{declarationOn, declared};
 use crate::keywords;
 use crate::pieces;
-use record::kinds;
 use text::ReadLabel;
 use text::Stand;
 

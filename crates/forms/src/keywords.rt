@@ -5,14 +5,13 @@ ghost use Prim.Native.Nat.{_≤_};
 ghost use lib.ListN.{length, take};
 ghost use Rattle.text.specs.Text.{wordOn};
 ghost use Rattle.text.specs.declared.Stand.the-variants.{At, Nothing};
-ghost use Rattle.record.specs.Kinds.{table, wordOf};
+ghost use Rattle.kinds.specs.Kinds.{table, wordOf};
 ghost use Rattle.forms.specs.Forms.{keywordOn, keywordKinds, firstOf};
 ghost use Rattle.forms.specs.Steps.{meantLine, noneBegins};
 use crate::pieces;
 use crate::pieces::Parsed;
+use kinds::Word;
 use record::Record;
-use record::kinds;
-use record::kinds::Word;
 use text::Stand;
 
 // The keyword forms in the Rust's order.

@@ -1,13 +1,12 @@
 // The forms that begin with a label.
 ghost use mathlib.Core.Path.{_≡_};
 ghost use Rattle.text.specs.declared.Stand.the-variants.{At};
-ghost use Rattle.record.specs.Kinds.{table};
+ghost use Rattle.kinds.specs.Kinds.{table};
 ghost use Rattle.forms.specs.Forms.{fixedOn, assignOn, labelFormsOn};
 ghost use Rattle.forms.specs.Steps.{meantLine, assignedOn, behindOn};
 use crate::keywords;
 use crate::pieces;
 use crate::pieces::Parsed;
-use record::kinds;
 use text::ReadLabel;
 use text::Stand;
 

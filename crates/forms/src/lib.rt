@@ -9,8 +9,8 @@ mod section;
 ghost use mathlib.Core.Path.{_≡_};
 ghost use Rattle.forms.specs.Forms.{lineOn, handedOut};
 ghost use Rattle.forms.specs.Section.{sectionOn, SectionRead};
+use kinds::KINDS;
 use record::Record;
-use record::kinds::KINDS;
 use refusal::Refusal;
 use text::Stand;
 

@@ -1,6 +1,6 @@
 // Instructions and guesses: the first form that reads.
 ghost use mathlib.Core.Path.{_≡_};
-ghost use Rattle.record.specs.Kinds.{table};
+ghost use Rattle.kinds.specs.Kinds.{table};
 ghost use Rattle.forms.specs.Forms.{instructionOn, guessedOn, guessOn, lineOn, handedOut};
 ghost use Rattle.forms.specs.Steps.{component, meantLine};
 use crate::Line;
@@ -9,7 +9,6 @@ use crate::labels;
 use crate::pieces;
 use crate::pieces::Parsed;
 use record::Record;
-use record::kinds;
 use text::ReadLabel;
 use text::Stand;
 

@@ -5,7 +5,6 @@ ghost use Rattle.forms.specs.Forms.{viewFrom, oneLabelled, aroundOn, eit
 use number::Number;
 use record::Record;
 use record::View;
-use record::kinds;
 use text::ReadLabel;
 use text::Stand;
 

@@ -4,7 +4,7 @@ ghost use Prim.Native.Nat.{_≤_};
 ghost use lib.ListN.{length};
 ghost use Rattle.text.specs.declared.Stand.the-variants.{At};
 ghost use Rattle.record.specs.Record.{longestText};
-ghost use Rattle.record.specs.Kinds.{table};
+ghost use Rattle.kinds.specs.Kinds.{table};
 ghost use Rattle.forms.specs.Section.{linesOn, store, SectionRead};
 ghost use Rattle.forms.specs.Steps.{recordsOf, Stored, stopOf};
 use crate::Count;

@@ -6,7 +6,7 @@ use lib.Dec.{eqb}
 use Rattle.ground.specs.Words.{bytes}
 use Rattle.refusal.specs.declared.Refusal.{Refusal}
 use Rattle.print.specs.Print.{decimalOf, hexOf}
-use Rattle.record.specs.Kinds.{kindAt, numberless, angle, pair}
+use Rattle.kinds.specs.Kinds.{kindAt, numberless, angle, pair}
 use Rattle.record.specs.Entry.{Entry}
 use Rattle.rail.specs.Words.{lineWith}
 use Rattle.reader.specs.declared.Reading.{Reading}

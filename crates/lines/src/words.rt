@@ -6,19 +6,18 @@ ghost use lib.Dec.{eqb};
 ghost use lib.ListN.{getD};
 ghost use Rattle.ground.specs.Lists.{upTo};
 ghost use Rattle.print.specs.Print.{decimalOf};
-ghost use Rattle.record.specs.Kinds.{kindAt};
+ghost use Rattle.kinds.specs.Kinds.{kindAt};
 ghost use Rattle.record.specs.Entry.{noView, named, entryOf};
 ghost use Rattle.rail.specs.Words.{newline, spaced};
 ghost use Rattle.lines.specs.Lines.{firstWord, thirdWord, thirdOf, numbersOf, goodLine, refusedLine, firstLine, lineOf};
 ghost use Rattle.rail.specs.Steps.{Adds};
 ghost use Rattle.lines.specs.Steps.{Lies};
+use kinds::KINDS;
 use rail::Place;
 use reader::Reading;
 use record::PLACES;
 use record::Record;
 use record::View;
-use record::kinds;
-use record::kinds::KINDS;
 use refusal::Refusal;
 
 // The first of the words that a third byte may stand for.

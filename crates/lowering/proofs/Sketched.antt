@@ -11,9 +11,9 @@ use Rattle.ground.specs.Lists.{flat}
 use Rattle.ground.proofs.Pieces.{Each, each-of, getD-map}
 use Rattle.refusal.specs.First.{passed}
 use Rattle.layout.specs.Slots.{slotCount}
-use Rattle.record.specs.Kinds.{Rule, Guess, firstRule, lastRule, pairGuess, numberGuess}
+use Rattle.kinds.specs.Kinds.{Rule, Guess, firstRule, lastRule, pairGuess, numberGuess}
 use Rattle.record.specs.Entry.{Entry, noEntry, entryAt}
-use Rattle.record.proofs.Table.{guess-label}
+use Rattle.kinds.proofs.Table.{guess-label}
 use Rattle.names.specs.Labels.{kindNo, within, lowestOr}
 use Rattle.names.specs.Cut.{knownParts}
 use Rattle.names.specs.Names.{nameFor, tellsPart, placeBy, guessesPart, guessIn}

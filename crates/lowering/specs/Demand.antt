@@ -16,7 +16,7 @@ use Rattle.layout.specs.Slots as layout
 use Rattle.layout.specs.Slots.{idsEnd}
 use Rattle.layout.specs.Look.{pointIds, circleIds, arcSlotIds, pointRead, circleRead, arcRead}
 use Rattle.layout.specs.Run.{Distinct}
-use Rattle.record.specs.Kinds.{Rule, Guess, firstRule, lastRule}
+use Rattle.kinds.specs.Kinds.{Rule, Guess, firstRule, lastRule}
 use Rattle.record.specs.Entry.{Label, Entry, entryAt, labelNo}
 use Rattle.record.specs.Formed.{entries}
 use Rattle.names.specs.Labels.{kindNo, nameNo}

@@ -5,7 +5,7 @@ use mathlib.Core.List.{List, [], _∷_, _++_, map}
 use Prim.Native.Nat.{ℕ, suc}
 use lib.Dec.{eqb}
 use Rattle.ground.specs.Words.{bytes}
-use Rattle.record.specs.Kinds.{firstRule, lastRule, fixComponent, fixCenter}
+use Rattle.kinds.specs.Kinds.{firstRule, lastRule, fixComponent, fixCenter}
 use Rattle.record.specs.Entry.{Label, Entry}
 use Rattle.row.specs.Row.{Row}
 use Rattle.names.specs.Labels.{same, within}

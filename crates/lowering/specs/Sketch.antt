@@ -16,7 +16,7 @@ use Rattle.layout.specs.declared.Arc.{Arc}
 use Rattle.layout.specs.Slots.{Figure, point, circle, arc, slotCount}
 use Rattle.layout.specs.Push.{onward}
 use Rattle.layout.specs.Run.{allComponents}
-use Rattle.record.specs.Kinds.{newPoint, newCircle, newArc, firstRule, lastRule, assigned, a-round}
+use Rattle.kinds.specs.Kinds.{newPoint, newCircle, newArc, firstRule, lastRule, assigned, a-round}
 use Rattle.record.specs.Entry.{Entry}
 use Rattle.row.specs.Row.{Row}
 use Rattle.names.specs.Labels.{within, lowestOr}

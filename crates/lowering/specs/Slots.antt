@@ -12,7 +12,7 @@ use Rattle.layout.specs.declared.Stage.the-variants.{Done}
 use Rattle.layout.specs.declared.ShapeKind.{ShapeKind}
 use Rattle.layout.specs.declared.ShapeKind.the-variants as K
 use Rattle.layout.specs.Slots.{sizeOf, slotOf}
-use Rattle.record.specs.Kinds.{pairGuess, numberGuess}
+use Rattle.kinds.specs.Kinds.{pairGuess, numberGuess}
 use Rattle.record.specs.Entry.{Label, Entry, entryAt, labelNo}
 use Rattle.drawing.specs.Needs.{Shape, point, circle, arc, declaring, Part, parts}
 use Rattle.names.specs.Labels.{kindNo, labelled, lowestOr}

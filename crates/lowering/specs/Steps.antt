@@ -17,8 +17,8 @@ use Rattle.layout.specs.declared.Stepped.the-variants as S
 use Rattle.layout.specs.Slots.{idsEnd, empty}
 use Rattle.layout.specs.Push.{State, state, over, onward}
 use Rattle.layout.specs.Run.{push, done, act, run}
-use Rattle.record.specs.Record.{mostRecords, labelPlaces}
-use Rattle.record.specs.Kinds.{kindAt, Rule, newPoint, newCircle, newArc}
+use Rattle.record.specs.Record.{mostRecords}
+use Rattle.kinds.specs.Kinds.{kindAt, Rule, newPoint, newCircle, newArc, labelPlaces}
 use Rattle.record.specs.Decode.{countOf, decodeAt}
 use Rattle.record.specs.Entry.{Entry}
 use Rattle.names.specs.Cut.{knownParts}

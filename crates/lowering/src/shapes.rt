@@ -11,6 +11,9 @@ ghost use Rattle.layout.specs.Steps.{nextAfter};
 ghost use Rattle.lowering.specs.Sketch.{pairOf, circleOf, arcOf, figureOf, ofKind};
 ghost use Rattle.lowering.specs.Steps.{kindsOf, numbersIn, laidIn, layoutAfter, oneOf, pushedOf, layoutThen, stage, laid, Slotted};
 use bits::from_bits;
+use kinds::NEW_ARC;
+use kinds::NEW_CIRCLE;
+use kinds::NEW_POINT;
 use layout::Arc;
 use layout::Circle;
 use layout::Layout;
@@ -29,9 +32,6 @@ use names::read::wide;
 use record::Record;
 use record::SIZE;
 use record::decode::decode_record;
-use record::kinds::NEW_ARC;
-use record::kinds::NEW_CIRCLE;
-use record::kinds::NEW_POINT;
 
 // A layout and the next id.
 pub(crate) struct Laid {

@@ -5,17 +5,17 @@ ghost use Rattle.record.specs.Record.{mostRecords};
 ghost use Rattle.record.specs.Decode.{countOf as records-in};
 ghost use Rattle.lowering.specs.Sketch.{sizeBy, spanBy, firstIn};
 ghost use Rattle.lowering.specs.Steps.{kindsOf, Counted, firstAt};
+use kinds::ASSIGNED;
+use kinds::NEW_ARC;
+use kinds::NEW_CIRCLE;
+use kinds::NEW_POINT;
+use kinds::ROUND;
 use names::SORTS;
 use names::STEP;
 use names::labels::kind_at;
 use names::read::either;
 use record::MOST;
 use record::SIZE;
-use record::kinds::ASSIGNED;
-use record::kinds::NEW_ARC;
-use record::kinds::NEW_CIRCLE;
-use record::kinds::NEW_POINT;
-use record::kinds::ROUND;
 
 // The third byte for y.
 const Y: u8 = 2;

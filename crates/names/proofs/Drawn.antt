@@ -10,15 +10,14 @@ use lib.ListN.{length, getD, drop, List·getD-eq-default}
 use lib.Seq.{getD-take, getD-drop, ext-getD}
 use borrow.Author.Tests.{lt-ltb, le-ltb, lt-leb, ne-eqb}
 use Rattle.bytes.specs.Little.{byte, u16}
-use Rattle.record.specs.Record.{recordBytes, labelPlaces, firstGuess}
+use Rattle.record.specs.Record.{recordBytes, firstGuess}
 use Rattle.record.specs.Decode.{decode, countOf, recordOf, decodeAt, viewAt, placeIn, hasPlace}
 use Rattle.record.specs.Entry.{Entry, noEntry, entryAt, labelNo, part, named, entryOf, noView, viewOf}
-use Rattle.record.specs.Kinds.{kindAt}
-use Rattle.record.specs.Sound.{Known}
+use Rattle.kinds.specs.Kinds.{kindAt, labelPlaces, Known}
 use Rattle.record.specs.Laid.{LaidRecord}
 use Rattle.record.specs.Formed.{WellFormed, entries}
 use Rattle.ground.proofs.UpTo.{length-up-to, getD-up-to}
-use Rattle.record.proofs.Table.{some-label, few-labels, guess-labels}
+use Rattle.kinds.proofs.Table.{some-label, few-labels, guess-labels}
 use Rattle.record.proofs.Entries.{entry-good, entry-at, whole-length}
 use Rattle.names.specs.Labels.{drawn, kindNo}
 

@@ -8,7 +8,7 @@ use native.Mathlib.Omega.{arith}
 use native.Mathlib.Decide.{decLt}
 use lib.ListN.{length, getD, set}
 use Rattle.refusal.proofs.Says.{Says, refuted, says-so, says-and, says-eq}
-use Rattle.record.specs.Kinds.{newPoint, newArc}
+use Rattle.kinds.specs.Kinds.{newPoint, newArc}
 use Rattle.record.specs.Entry.{Label, Entry}
 use Rattle.names.specs.Labels.{kindNo, nameNo, same, within, labelled, lowestOr}
 use Rattle.names.specs.Chains.{chains, hashOf, hashed, firstFrom, NextsFrom, ChainedFrom, Chained}

@@ -9,7 +9,7 @@ use lib.ListN.{length}
 use native.Mathlib.Decide.{decLt}
 use borrow.Author.Tests.{lt-ltb, le-ltb}
 use Rattle.refusal.proofs.Says.{Says, says-so, says-and, says-lt, says-eq, says-iff, says-once, refuted, stable}
-use Rattle.record.specs.Kinds.{newPoint, newArc, pairGuess, numberGuess, Declaration}
+use Rattle.kinds.specs.Kinds.{newPoint, newArc, pairGuess, numberGuess, Declaration}
 use Rattle.record.specs.Record.{mostRecords}
 use Rattle.record.specs.Entry.{Label, Entry}
 use Rattle.names.specs.Labels.{kindNo, nameNo, within, labelled, lowestOr}

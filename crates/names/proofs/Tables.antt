@@ -11,8 +11,8 @@ use borrow.Author.Tests.{lt-ltb, le-ltb, eq-eqb, ne-eqb}
 use Rattle.refusal.proofs.Says.{says-once, says-iff, says-le}
 use Rattle.ground.specs.Lists.{upTo}
 use Rattle.ground.proofs.UpTo.{length-up-to, getD-up-to, up-to-list}
-use Rattle.record.specs.Kinds.{kindAt, pairGuess, numberGuess}
-use Rattle.record.specs.Record.{mostRecords, labelPlaces}
+use Rattle.kinds.specs.Kinds.{kindAt, pairGuess, numberGuess, labelPlaces}
+use Rattle.record.specs.Record.{mostRecords}
 use Rattle.record.specs.Decode.{countOf, decodeAt}
 use Rattle.record.specs.Entry.{Entry, noEntry, entryAt, labelNo}
 use Rattle.record.specs.Laid.{LaidOut}

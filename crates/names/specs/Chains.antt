@@ -6,7 +6,7 @@ use mathlib.Core.List.{List, [], _∷_}
 use Prim.Native.Nat.{ℕ, zero, suc, _+_, _*_, _-_, _%_, _≤_, _<_}
 use lib.Dec.{eqb}
 use lib.ListN.{length, getD}
-use Rattle.record.specs.Kinds.{newPoint, newArc}
+use Rattle.kinds.specs.Kinds.{newPoint, newArc}
 use Rattle.record.specs.Entry.{Label, Entry}
 use Rattle.names.specs.Labels.{kindNo, nameNo, within}
 use Rattle.names.specs.Cut.{stem}

@@ -8,8 +8,8 @@ use lib.Dec.{ltb, eqb}
 use lib.ListN.{length}
 use Rattle.ground.specs.Lists.{upTo}
 use Rattle.refusal.specs.First.{EachBelow}
-use Rattle.record.specs.Kinds.{kindAt, newPoint, newArc, pairGuess, numberGuess, Declaration}
-use Rattle.record.specs.Record.{mostRecords, labelPlaces}
+use Rattle.kinds.specs.Kinds.{kindAt, newPoint, newArc, pairGuess, numberGuess, Declaration, labelPlaces}
+use Rattle.record.specs.Record.{mostRecords}
 use Rattle.record.specs.Entry.{Label, Entry, entryAt, labelNo}
 use Rattle.record.specs.Laid.{laidOut}
 use Rattle.names.specs.Labels.{drawn, kindNo, nameNo, within, labelled, lowestOr}

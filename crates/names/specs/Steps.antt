@@ -5,8 +5,8 @@ use mathlib.Core.List.{List}
 use Prim.Native.Nat.{ℕ, _*_, _≤_, _<_}
 use lib.Dec.{leb, eqb}
 use lib.ListN.{length, getD}
-use Rattle.record.specs.Kinds.{pairGuess}
-use Rattle.record.specs.Record.{mostRecords, labelPlaces}
+use Rattle.kinds.specs.Kinds.{pairGuess, labelPlaces}
+use Rattle.record.specs.Record.{mostRecords}
 use Rattle.record.specs.Decode.{countOf, decodeAt}
 use Rattle.record.specs.Entry.{Entry}
 use Rattle.names.specs.Chains.{FirstsFrom}

@@ -3,7 +3,7 @@ ghost use mathlib.Core.Path.{_≡_};
 ghost use mathlib.Core.Bool.{true};
 ghost use Prim.Native.Nat.{_≤_, _<_};
 ghost use lib.ListN.{length};
-ghost use Rattle.record.specs.Kinds.{newPoint, newArc};
+ghost use Rattle.kinds.specs.Kinds.{newPoint, newArc};
 ghost use Rattle.record.specs.Record.{mostRecords};
 ghost use Rattle.record.specs.Decode.{countOf as records-in};
 ghost use Rattle.record.specs.Laid.{LaidOut};
@@ -14,9 +14,9 @@ use crate::labels::kind_of;
 use crate::labels::label_of;
 use crate::labels::same;
 use crate::pieces::front;
+use kinds::NEW_ARC;
 use record::MOST;
 use record::SIZE;
-use record::kinds::NEW_ARC;
 
 // How many chains there are.
 pub(crate) const HEADS: usize = 1_024;

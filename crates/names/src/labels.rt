@@ -1,7 +1,7 @@
 // The kinds and labels of records.
 ghost use mathlib.Core.Path.{_≡_};
 ghost use Prim.Native.Nat.{_<_};
-ghost use Rattle.record.specs.Kinds.{kindAt};
+ghost use Rattle.kinds.specs.Kinds.{kindAt};
 ghost use Rattle.record.specs.Decode.{countOf as records-in, decodeAt};
 ghost use Rattle.record.specs.Entry.{entryAt, labelNo};
 ghost use Rattle.record.specs.Laid.{LaidOut};

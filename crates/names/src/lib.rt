@@ -9,8 +9,8 @@ pub mod read;
 ghost use mathlib.Core.Path.{_≡_};
 ghost use Prim.Native.Nat.{_+_, _*_, _≤_, _<_};
 ghost use lib.ListN.{length, replicate};
-ghost use Rattle.record.specs.Kinds.{table as all-kinds};
-ghost use Rattle.record.specs.Record.{mostRecords, labelPlaces};
+ghost use Rattle.kinds.specs.Kinds.{table as all-kinds, labelPlaces};
+ghost use Rattle.record.specs.Record.{mostRecords};
 ghost use Rattle.record.specs.Decode.{countOf as records-in};
 ghost use Rattle.record.specs.Laid.{LaidOut};
 ghost use Rattle.names.specs.Labels.{drawn};
@@ -20,6 +20,10 @@ ghost use Rattle.names.specs.Steps.{FilledWith, NamedUpTo, Inside, Noted
 use chains::HEADS;
 use chains::chain;
 use chains::walk;
+use kinds::KINDS;
+use kinds::LABELS;
+use kinds::PAIR_GUESS;
+use kinds::look;
 use labels::kind_of;
 use labels::label_of;
 use pieces::front;
@@ -29,10 +33,6 @@ use record::MOST;
 use record::PLACES;
 use record::SIZE;
 use record::formed::laid_out;
-use record::kinds::KINDS;
-use record::kinds::LABELS;
-use record::kinds::PAIR_GUESS;
-use record::kinds::look;
 
 // The parts that can stand behind a shape's label, nothing among them.
 pub const WHOLE: usize = 0;

@@ -5,9 +5,8 @@ use mathlib.Core.List.{List}
 use Prim.Native.Nat.{ℕ, _+_, _-_, _^_, _≤_, _<_}
 use native.Mathlib.Omega.{arith}
 use borrow.Author.Tests.{le-leb}
-use lib.ListN.{length, drop, length-drop}
-use Rattle.text.specs.Text.{runTo}
-use Rattle.text.proofs.Within.{run-length}
+use lib.ListN.{length}
+use Rattle.text.proofs.Within.{runTo-within}
 use Rattle.decimal.specs.Decimal.{limit, carried}
 use Rattle.decimal.specs.declared.Carried.the-variants.{Outside}
 use Rattle.decimal.proofs.Laws.{outside-big, outside-times, outside-over}
@@ -18,8 +17,8 @@ use Rattle.number.proofs.Numerals.{capped-same}
 
 -- no text has more digits than bytes
 pub few : {s : List ℕ} {first m count end : ℕ} {none : Bool} → Joined s first m count end none → count ≤ length s
-unfolding endAt runTo
-few {s} {first} d = let part = partAt s first in omega (arith, d .count-is, run-length isDigit (drop part s), length-drop part s)
+unfolding endAt
+few {s} {first} d = omega (arith, d .count-is, runTo-within isDigit s (partAt s first))
 
 -- an exponent that is over 22 more than the count of digits is not carried, below zero or above
 long-outside : (m : ℕ) (s below : Bool) (size count : ℕ) → count < 2 ^ 63 → exponentCap ≤ size → carriedBy m s below size count ≡ Outside

@@ -10,7 +10,7 @@ use lib.Dec.{leb, eqb}
 use lib.ListN.{length, getD}
 use Rattle.ground.proofs.Lists.{getD-inside}
 use Rattle.refusal.proofs.Says.{says-so, says-not, says-eq, says-le, says-cond, says-all}
-use Rattle.record.specs.Kinds.{kinds, kindAt, pair}
+use Rattle.kinds.specs.Kinds.{kinds, kindAt, pair}
 use Rattle.record.specs.Record.{longestText, firstGuess, encodeAll}
 use Rattle.record.specs.Decode.{Fits, noRecord, decodeAt}
 use Rattle.record.specs.Entry.{named, entryOf}

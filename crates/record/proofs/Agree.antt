@@ -12,12 +12,12 @@ use Rattle.refusal.proofs.Says.{Says, says-and, says-unless, says-cond, says-if
 use Rattle.bytes.specs.Little.{byte}
 use Rattle.record.specs.declared.View.{View}
 use Rattle.record.specs.declared.Record.{Record}
-use Rattle.record.specs.Kinds.{kindAt, numberless, pair}
-use Rattle.record.specs.Record.{recordBytes, mark, firstGuess, labelPlaces, longestText}
+use Rattle.kinds.specs.Kinds.{kindAt, numberless, pair, labelPlaces, Known}
+use Rattle.record.specs.Record.{recordBytes, mark, firstGuess, longestText}
 use Rattle.record.specs.Decode.{decode}
 use Rattle.record.specs.Entry.{Entry, noEntry, labelNo, named, entryOf, noView, viewOf}
-use Rattle.record.specs.Sound.{guessEnd, guessZeros, Placed, Framed, Known, Third, Spelled, Sound, Good, placedTest, framedTest, fieldsTest, soundTest, goodTest}
-use Rattle.record.proofs.Table.{says-known}
+use Rattle.record.specs.Sound.{guessEnd, guessZeros, Placed, Framed, Third, Spelled, Sound, Good, placedTest, framedTest, fieldsTest, soundTest, goodTest}
+use Rattle.kinds.proofs.Table.{says-known}
 use Rattle.record.proofs.Spelled.{says-spelled}
 use Rattle.ground.proofs.UpTo.{length-up-to, getD-up-to}
 

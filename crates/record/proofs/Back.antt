@@ -1,4 +1,5 @@
--- Decode after encode is the identity, on a record and on a list of records: each view and each number comes back from its bytes. Assumes nothing.
+-- Decode after encode is the identity, on a record and on a list of records: each view and each number comes back from its bytes. Bytes of one
+-- record alone hold that record. Assumes nothing.
 use mathlib.Core.Path.{_≡_, refl, sym}
 use mathlib.Core.Bool.{Bool, true, false, cond}
 use mathlib.Core.List.{List, [], _∷_, _++_, append-nil}
@@ -6,6 +7,7 @@ use Prim.Native.Nat.{ℕ, _+_, _-_, _*_, _<_}
 use native.Mathlib.Omega.{arith}
 use lib.Dec.{lit<}
 use lib.ListN.{length, getD, take, drop}
+use lib.Seq.{take-length}
 use borrow.Author.Tests.{leb-true, leb-false, lt-ltb}
 use Rattle.ground.specs.Lists.{flat}
 use Rattle.ground.proofs.Pieces.{each-of, length-flat, piece-at}
@@ -13,9 +15,10 @@ use Rattle.refusal.specs.First.{EachBelow}
 use Rattle.bytes.proofs.Little.{number-le}
 use Rattle.bytes.specs.Little.{byte}
 use Rattle.text.proofs.Laws.{cond-of}
+use Rattle.kinds.specs.Kinds.{labelPlaces}
 use Rattle.record.specs.Entry.{noView, viewOf}
 use Rattle.record.specs.declared.Record.{Record}
-use Rattle.record.specs.Record.{recordBytes, firstGuess, instruction, guess, encode, encodeAll, labelPlaces, encodeView}
+use Rattle.record.specs.Record.{recordBytes, firstGuess, instruction, guess, encode, encodeAll, encodeView}
 use Rattle.record.specs.Decode.{isGuess, decode, countOf, recordOf, noRecord, decodeAt, Fits, viewAt, placeIn}
 use Rattle.ground.proofs.UpTo.{up-to-list}
 use Rattle.record.proofs.Places.{each-place}
@@ -86,3 +89,8 @@ unfolding decodeAt
 decode-all rs i h f =
     let n : i < countOf (encodeAll rs) = omega (arith, count-all rs) in
     rw (lt-ltb i (countOf (encodeAll rs)) n, record-of-all rs i h, ← append-nil (encode (getD rs i noRecord))) (decode-encode (getD rs i noRecord) [] f)
+
+-- bytes of one record's length hold that record
+pub decode-one : (b : List ℕ) → length b ≡ recordBytes → decodeAt b 0 ≡ decode b
+unfolding decodeAt
+decode-one b e = let all : take recordBytes b ≡ b = rw e at (take-length b) in rw (e, all)

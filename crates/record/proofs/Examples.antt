@@ -1,48 +1,42 @@
--- Lists of records with what is told of them, and what records answer that are asked: one claim, which the definitions compute.
--- Assumes nothing.
+-- Lists of records with what is told of them: one claim, which the definitions compute. Assumes nothing.
 use mathlib.Core.Path.{_≡_, refl}
 use mathlib.Core.Option.{Option, none, some}
 use mathlib.Core.List.{List, [], _∷_, _++_, map}
 use Prim.Native.Nat.{ℕ}
-use lib.Ieee.{binary64, ofBits}
 use Rattle.ground.specs.Words.{bytes}
 use Rattle.refusal.specs.First.{lowest}
 use Rattle.text.specs.Text.{runTo, wordAt, byteOn, labelAt, labelOn, suffixedOn}
 use Rattle.record.specs.declared.View.{View}
 use Rattle.record.specs.declared.Record.{Record}
 use Rattle.record.specs.declared.formed.Formed.{Formed}
-use Rattle.record.specs.declared.ask.Asked.{Asked}
-use Rattle.record.specs.declared.ask.Asked.the-variants as asked
-use Rattle.record.specs.declared.ask.Angle.the-variants.{Degrees, Radians}
 use Rattle.record.specs.Record.{encode, encodeAll, oneLabel}
 use Rattle.record.specs.Decode.{decode}
-use Rattle.record.specs.Entry.{Label, entryOf}
-use Rattle.record.specs.Sound.{spelledTest, framedTest, soundTest, goodTest}
-use Rattle.record.specs.Formed.{entry, entries, malformedTest, verdict, formedOf, malformedAt}
-use Rattle.record.specs.Ask.{labelOf, angleOf}
+use Rattle.record.specs.Entry.{entryOf}
+use Rattle.record.specs.Sound.{spelledTest, framedTest, soundTest}
+use Rattle.record.specs.Formed.{entry, entries, malformedTest, verdict, formedOf}
 
 -- ---- a text and records over it
 
-abbrev text : List ℕ
+abbrev pub text : List ℕ
 text = bytes "p cc.center a.b.c"
 
 -- a part of it
-abbrev view : ℕ → ℕ → View
+abbrev pub view : ℕ → ℕ → View
 view start len = record { start = start; len = len }
 
 -- a record with one label
-abbrev one : ℕ → ℕ → ℕ → ℕ → ℕ → ℕ → Record
+abbrev pub one : ℕ → ℕ → ℕ → ℕ → ℕ → ℕ → Record
 one kind third start len x y = oneLabel kind third (view start len) x y
 
 -- `point p`, and a guess of p
-abbrev point : Record
+abbrev pub point : Record
 point = one 1 0 0 1 0 0
 
 abbrev guess : Record
 guess = one 24 0 0 1 5 7
 
 -- an angle over p, cc, p and p
-abbrev angle : ℕ → Record
+abbrev pub angle : ℕ → Record
 angle third =
     record { kind = 10; third = third; count = 4; labels = view 0 1 ∷ view 2 2 ∷ view 0 1 ∷ view 0 1 ∷ []; x = 7; y = 0 }
 
@@ -84,19 +78,8 @@ abbrev expected : List (Option ℕ)
 expected =
     none ∷ none ∷ some 0 ∷ some 1 ∷ some 1 ∷ some 1 ∷ none ∷ some 0 ∷ some 0 ∷ some 0 ∷ some 1 ∷ some 1 ∷ some 0 ∷ some 0 ∷ some 2 ∷ some 2 ∷ some 2 ∷ []
 
--- ---- what is asked
-
-abbrev labels : List Label
-labels = labelOf text (encode (angle 1)) 1 ∷ labelOf text (encode (one 24 0 2 9 5 7)) 0 ∷ labelOf text (encode point) 1 ∷ labelOf text [] 0 ∷ []
-
-abbrev angles : List Asked
-angles = angleOf text (encode (angle 1)) ∷ angleOf text (encode (angle 2)) ∷ angleOf text (encode point) ∷ []
-
 -- ---- the claim
 
-pub examples :
-    (answers ≡ map verdict expected)
-    × (labels ≡ bytes "cc" ∷ bytes "cc.center" ∷ [] ∷ [] ∷ [])
-    × (angles ≡ asked.Angle (Degrees (ofBits binary64 7)) ∷ asked.Angle (Radians (ofBits binary64 7)) ∷ asked.Refused (malformedAt 0) ∷ [])
-unfolding encode encodeAll decode entryOf runTo wordAt byteOn labelAt labelOn suffixedOn spelledTest framedTest soundTest goodTest entry entries malformedTest lowest formedOf labelOf angleOf
-examples = (refl, refl, refl)
+pub examples : answers ≡ map verdict expected
+unfolding encode encodeAll decode entryOf runTo wordAt byteOn labelAt labelOn suffixedOn spelledTest framedTest soundTest entry entries malformedTest lowest formedOf
+examples = refl

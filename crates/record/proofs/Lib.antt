@@ -1,4 +1,3 @@
-pub mod Table
 pub mod Back
 pub mod Places
 pub mod Found
@@ -11,8 +10,6 @@ pub mod Passed
 pub mod Laid
 pub mod Entries
 pub mod WellFormed
-pub mod Asked
-pub mod Cells
 pub mod Written
 pub mod Only
 pub mod Examples

@@ -9,7 +9,7 @@ use Rattle.refusal.specs.First.{EachBelow, allBelow}
 use Rattle.refusal.proofs.Says.{says-once, says-and, says-iff, says-eq}
 use Rattle.bytes.specs.Little.{byte, u16, u64}
 use Rattle.bytes.proofs.Little.{next-place}
-use Rattle.record.specs.Record.{labelPlaces}
+use Rattle.kinds.specs.Kinds.{labelPlaces}
 use Rattle.record.specs.Decode.{isGuess, viewAt, decode}
 use Rattle.record.specs.Sound.{placedTest, allPlaced}
 

@@ -1,7 +1,7 @@
 -- A record is good, or is but for the spelling of labels that no declaration has, exactly if its shape and the labels that are looked at
 -- pass their tests: each is put together along its statement. Assumes nothing.
-use mathlib.Core.Path.{_≡_, refl, sym, _∙_}
-use mathlib.Core.Bool.{Bool, true, false, _&&_, or-true}
+use mathlib.Core.Path.{_≡_, refl, sym, ap, _∙_}
+use mathlib.Core.Bool.{Bool, true, false, _&&_, cond, or-true}
 use mathlib.Core.List.{List}
 use Prim.Native.Nat.{ℕ, _+_, _*_, _≤_, _<_}
 use native.Mathlib.Omega.{arith}
@@ -10,18 +10,18 @@ use lib.Dec.{eqb}
 use lib.ListN.{length}
 use borrow.Author.Tests.{eqb-true, eq-eqb, lt-leb}
 use Rattle.refusal.specs.First.{EachBelow}
-use Rattle.refusal.proofs.Says.{Says, refuted, says-and, says-unless, says-if, says-iff, says-eq, says-le, says-lt, says-all}
+use Rattle.refusal.proofs.Says.{Says, refuted, says-once, says-and, says-unless, says-if, says-iff, says-eq, says-le, says-lt, says-all}
 use Rattle.bytes.specs.Little.{byte, u16}
-use Rattle.record.specs.Kinds.{newArc, kindAt, numberless, pair}
-use Rattle.record.specs.Record.{recordBytes, longestText, labelPlaces, mark, firstGuess}
+use Rattle.kinds.specs.Kinds.{newArc, kindAt, numberless, pair, labelPlaces, Known}
+use Rattle.record.specs.Record.{recordBytes, longestText, mark, firstGuess}
 use Rattle.record.specs.Decode.{viewAt, placeIn, hasPlace, decode}
 use Rattle.record.specs.Entry.{labelNo, named, entryOf, noView, viewOf}
-use Rattle.record.specs.Sound.{guessEnd, guessZeros, Plain, Framed, Known, Spelled, Good}
+use Rattle.record.specs.Sound.{guessEnd, guessZeros, Plain, Framed, Spelled, Good, goodKind}
 use Rattle.record.specs.Laid.{restTest, shapeTest, recordTest, kindTold, LaidRecord}
 use Rattle.record.specs.Steps.{Shaped}
 use Rattle.ground.proofs.UpTo.{getD-up-to}
-use Rattle.record.proofs.Table.{says-known, some-label, few-labels, guess-labels, declared-label}
-use Rattle.record.proofs.Agree.{Allowed, says-placed, count-is, all-spelled}
+use Rattle.kinds.proofs.Table.{says-known, some-label, few-labels, guess-labels, declared-label}
+use Rattle.record.proofs.Agree.{Allowed, says-placed, count-is, all-spelled, says-good}
 use Rattle.record.proofs.Spelled.{says-spelled}
 
 -- the bytes are a good record's, in full, or those of a record that is laid out
@@ -150,3 +150,8 @@ module _ (text b : List ℕ) where
   unfolding kindTold
   says-bad full =
       record { so = λ e r. omega (arith, eqb-true (kindTold full text b) 0 e, kind-of full r, known-by full r .0); back = λ f. rw (refuted (says-record full) f) refl }
+
+  -- in full it is that of a good record
+  pub kind-good : kindTold true text b ≡ goodKind text b
+  unfolding kindTold goodKind
+  kind-good = ap (λ (t : Bool). cond t (decode b .kind) 0) (says-once (says-record true) (says-good text b))

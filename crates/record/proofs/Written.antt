@@ -9,8 +9,9 @@ use Rattle.refusal.specs.First.{EachBelow}
 use Rattle.refusal.proofs.Says.{says-eq, says-all}
 use Rattle.text.proofs.Laws.{cond-of}
 use Rattle.bytes.specs.Little.{byte}
+use Rattle.kinds.specs.Kinds.{labelPlaces}
 use Rattle.record.specs.declared.Record.{Record}
-use Rattle.record.specs.Record.{mark, firstGuess, instruction, guess, encode, labelPlaces, longestText}
+use Rattle.record.specs.Record.{mark, firstGuess, instruction, guess, encode, longestText}
 use Rattle.record.specs.Decode.{isGuess, decode, countOf, recordOf, decodeAt, Fits}
 use Rattle.record.specs.Entry.{entryAt, entryOf}
 use Rattle.record.specs.Sound.{guessEnd, guessZeros, Placed, Sound, Good}

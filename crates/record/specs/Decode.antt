@@ -8,9 +8,10 @@ use lib.ListN.{length, take, drop, replicate}
 use Rattle.ground.specs.Lists.{upTo}
 use Rattle.refusal.specs.First.{EachBelow}
 use Rattle.bytes.specs.Little.{byte, u16, u64}
+use Rattle.kinds.specs.Kinds.{labelPlaces}
 use Rattle.record.specs.declared.View.{View}
 use Rattle.record.specs.declared.Record.{Record}
-use Rattle.record.specs.Record.{recordBytes, labelPlaces, firstGuess}
+use Rattle.record.specs.Record.{recordBytes, firstGuess}
 use Rattle.record.specs.Entry.{noView, viewOf}
 
 -- ---- a record from its bytes

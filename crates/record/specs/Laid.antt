@@ -11,11 +11,11 @@ use Rattle.bytes.specs.Little.{byte}
 use Rattle.record.specs.declared.Record.{Record}
 use Rattle.record.specs.declared.formed.Formed.{Formed}
 use Rattle.record.specs.declared.formed.Formed.the-variants as formed
-use Rattle.record.specs.Kinds.{newArc, kindAt, numberless, pair}
+use Rattle.kinds.specs.Kinds.{newArc, kindAt, numberless, pair, Known}
 use Rattle.record.specs.Record.{recordBytes, mostRecords, longestText, mark}
 use Rattle.record.specs.Decode.{isGuess, decode, countOf, recordOf}
 use Rattle.record.specs.Entry.{named}
-use Rattle.record.specs.Sound.{Plain, Framed, Known, Third, spelledTest, allPlaced, endedTest}
+use Rattle.record.specs.Sound.{Plain, Framed, Third, spelledTest, allPlaced, endedTest}
 use Rattle.record.specs.Formed.{Parted, misplaced, verdict}
 
 -- ---- in words

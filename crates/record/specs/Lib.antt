@@ -1,9 +1,7 @@
-pub mod Kinds
 pub mod Record
 pub mod Decode
 pub mod Entry
 pub mod Sound
 pub mod Formed
-pub mod Ask
 pub mod Steps
 pub mod Laid

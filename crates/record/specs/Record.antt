@@ -8,7 +8,7 @@ use Rattle.ground.specs.Lists.{flat, upTo}
 use Rattle.bytes.specs.Little.{le16, le64}
 use Rattle.record.specs.declared.View.{View}
 use Rattle.record.specs.declared.Record.{Record}
-use Rattle.record.specs.Kinds.{pairGuess}
+use Rattle.kinds.specs.Kinds.{pairGuess, labelPlaces}
 use Rattle.record.specs.Entry.{noView, viewOf}
 
 -- ---- limits and marks
@@ -28,10 +28,6 @@ recordRoom = mostRecords * recordBytes
 -- the longest text
 abbrev pub longestText : ℕ
 longestText = 32768
-
--- the label places of a record
-abbrev pub labelPlaces : ℕ
-labelPlaces = 4
 
 -- the first byte of its mark; the second is the kind
 abbrev pub mark : ℕ

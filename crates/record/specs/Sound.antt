@@ -13,8 +13,8 @@ use Rattle.refusal.specs.First.{EachBelow, allBelow}
 use Rattle.bytes.specs.Little.{byte}
 use Rattle.record.specs.declared.View.{View}
 use Rattle.record.specs.declared.Record.{Record}
-use Rattle.record.specs.Kinds.{Kind, kinds, kindAt, numberless, pair}
-use Rattle.record.specs.Record.{recordBytes, longestText, labelPlaces, mark, firstGuess}
+use Rattle.kinds.specs.Kinds.{Kind, Known, kindAt, numberless, pair, labelPlaces}
+use Rattle.record.specs.Record.{recordBytes, longestText, mark, firstGuess}
 use Rattle.record.specs.Decode.{isGuess, decode}
 use Rattle.record.specs.Entry.{Label, Entry, labelNo, noView, viewOf, entryOf}
 
@@ -54,10 +54,6 @@ pub record Framed (text b : List ℕ) : Type 0 where
   pub few : decode b .count ≤ labelPlaces
   pub placed : EachBelow labelPlaces (Placed text (decode b))
   pub ended : firstGuess ≤ decode b .kind → EachBelow guessZeros (λ k. byte b (guessEnd + k) ≡ 0)
-
--- a kind of the table
-abbrev pub Known : ℕ → Type 0
-Known kind = (0 < kind) × (kind < length kinds)
 
 -- a third byte that the kind has: 0 where it has none, and else from 1 on
 abbrev pub Third : ℕ → ℕ → Type 0
@@ -127,3 +123,7 @@ soundTest e =
 -- the bytes are a good record's
 unfoldable pub goodTest : List ℕ → List ℕ → Bool
 goodTest text b = leb (length text) longestText && (framedTest (length text) b && soundTest (entryOf text (decode b)))
+
+-- the kind of a good record, and 0 of any other bytes
+unfoldable pub goodKind : List ℕ → List ℕ → ℕ
+goodKind text b = cond (goodTest text b) (decode b .kind) 0

@@ -9,10 +9,10 @@ ghost use Rattle.record.specs.Decode.{isGuess, viewAt, decode, decodeAt}
 use super::Record;
 use super::SIZE;
 use super::View;
-use super::kinds::PAIR_GUESS;
 use super::no_record;
 use bytes::u16_of;
 use bytes::u64_of;
+use kinds::PAIR_GUESS;
 
 // The view that is written in the four bytes from k on.
 pub(crate) fn view_at(b: &[u8], k: usize) -> View

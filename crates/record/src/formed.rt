@@ -5,9 +5,9 @@ ghost use Rattle.record.specs.Laid.{formedBy, laidOut};
 use super::LONGEST;
 use super::MOST;
 use super::SIZE;
-use super::kinds::KINDS;
-use super::kinds::PAIR_GUESS;
 use super::sound;
+use kinds::KINDS;
+use kinds::PAIR_GUESS;
 use refusal::Refusal;
 
 // The number of the refusal.
@@ -20,7 +20,7 @@ pub enum Formed {
 }
 
 // 30 at a place.
-pub(crate) fn malformed_at(place: usize) -> Refusal
+pub fn malformed_at(place: usize) -> Refusal
     ensures { λ r. ⌜ r ≡ malformedAt place ⌝ }
 {
     Refusal {

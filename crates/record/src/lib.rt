@@ -1,8 +1,6 @@
-// The record of 28 bytes that a line of a page is read to, and the table of kinds.
-pub mod ask;
+// The record of 28 bytes that a line of a page is read to.
 pub mod decode;
 pub mod formed;
-pub mod kinds;
 pub mod sound;
 
 ghost use mathlib.Core.Path.{_≡_};

@@ -5,11 +5,11 @@ ghost use Prim.Native.Nat.{_+_, _≤_, _<_};
 ghost use lib.Dec.{leb, eqb};
 ghost use lib.ListN.{length};
 ghost use Rattle.bytes.specs.Little.{byte, u16};
-ghost use Rattle.record.specs.Kinds.{table, kindAt};
+ghost use Rattle.kinds.specs.Kinds.{table, kindAt};
 ghost use Rattle.record.specs.Record.{recordBytes, firstGuess};
 ghost use Rattle.record.specs.Decode.{isGuess, decode};
 ghost use Rattle.record.specs.Entry.{part};
-ghost use Rattle.record.specs.Sound.{spelledTest, allPlaced, endedTest};
+ghost use Rattle.record.specs.Sound.{spelledTest, allPlaced, endedTest, goodKind};
 ghost use Rattle.record.specs.Laid.{headBy, restTest, shapeTest, spelledAll, labelTest, kindTold};
 ghost use Rattle.record.specs.Steps.{Shaped};
 use super::LONGEST;
@@ -17,9 +17,9 @@ use super::MARK;
 use super::SIZE;
 use super::View;
 use super::decode;
-use super::kinds;
-use super::kinds::NEW_ARC;
-use super::kinds::PAIR_GUESS;
+use kinds::KINDS;
+use kinds::NEW_ARC;
+use kinds::PAIR_GUESS;
 use text::Stand;
 
 // Whether a text is spelled as a label, or as two around a point.
@@ -177,9 +177,9 @@ pub(crate) fn kind_by(kinds: &[[u8; 8]; 26], text: &[u8], b: &[u8], full: bool) 
 }
 
 // The kind of a good record, and 0 of any other bytes.
-pub(crate) fn good_kind(kinds: &[[u8; 8]; 26], text: &[u8], b: &[u8]) -> u8
-    requires { ⌜ now kinds ≡ table ⌝ }
-    ensures { λ r. ⌜ r ≡ kindTold true (now (text .entry)) (now (b .entry)) ⌝ }
+pub fn good_kind(text: &[u8], b: &[u8]) -> u8
+    ensures { λ r. ⌜ r ≡ goodKind (now (text .entry)) (now (b .entry)) ⌝ }
 {
-    kind_by(kinds, text, b, true)
+    let kinds = KINDS;
+    kind_by(&kinds, text, b, true)
 }

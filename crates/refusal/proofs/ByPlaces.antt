@@ -3,16 +3,17 @@ use mathlib.Core.Path.{_≡_, refl, sym, ap, _∙_}
 use mathlib.Core.Logic.{⊎-elim}
 use mathlib.Core.Bool.{Bool, true, false, cond}
 use mathlib.Core.Option.{Option, none, some}
-use mathlib.Core.List.{List, [], _∷_}
-use Prim.Native.Nat.{ℕ, zero, suc}
+use mathlib.Core.List.{List, [], _∷_, map}
+use Prim.Native.Nat.{ℕ, zero, suc, _+_, _≤_, _<_}
 use native.Mathlib.Nat.{not-suc-le-zero}
+use native.Mathlib.Numerals.{add-one}
 use native.Mathlib.Omega.{arith}
 use lib.Dec.{ltb}
-use lib.ListN.{length}
+use lib.ListN.{length, getD}
 use borrow.Author.Tests.{lt-ltb, le-ltb}
-use Rattle.refusal.specs.First.{EachBelow, Answer, orElse, lowest, tell, first}
+use Rattle.refusal.specs.First.{EachBelow, Answer, passed, refused, orElse, lowest, tell, first}
 use Rattle.refusal.proofs.Says.{says-lt, says-iff, says-once, below-suc}
-use Rattle.refusal.specs.Worst.{rankAt, Worst, worst, ranked}
+use Rattle.refusal.specs.Worst.{rankAt, Worst, worse, worst, ranked}
 
 -- the same with every rank one more
 abbrev bump : Worst → Worst
@@ -69,3 +70,19 @@ module _ {F : Type 0} (test : F → ℕ → Bool) (n : ℕ) where
   unfolding first
   by-places [] = refl
   by-places (f ∷ order) = tell-one f order (lowest n (test f)) (shown (length order) (test f) (rankAt order test) n) (by-places order)
+
+-- a rank that is one of the order's tells its fault, with its number, and one past the last tells nothing
+pub at-rank : {F : Type 0} (number : F → ℕ) (order : List F) (k i : ℕ) → k < length order
+    → (f : F) × (ranked order k i ≡ refused f i) × (getD (map number order) k 0 ≡ number f)
+at-rank number [] k i h = absurd (not-suc-le-zero h)
+at-rank number (f ∷ order) zero i h = (f, refl, refl)
+at-rank number (f ∷ order) (suc k) i h = at-rank number order k i (omega arith)
+
+pub past-rank : {F : Type 0} (order : List F) (k i : ℕ) → length order ≤ k → ranked order k i ≡ passed
+past-rank [] k i h = refl
+past-rank (f ∷ order) zero i h = absurd (not-suc-le-zero h)
+past-rank (f ∷ order) (suc k) i h = past-rank order k i (omega arith)
+
+-- the pass, one place more
+pub worst-more : (top : ℕ) (ranks : ℕ → ℕ) (i r : ℕ) (w v : Worst) → w ≡ worst top ranks i → r ≡ ranks i → v ≡ worse r i w → v ≡ worst top ranks (i + 1)
+worst-more top ranks i r w v ew er ev = ev ∙ rw (ew, er, add-one i) refl

@@ -9,6 +9,15 @@ use native.Mathlib.Omega.{arith}
 use Rattle.refusal.specs.First.{lowest, orElse, SomeBelow, EachBelow, Lowest, Nowhere}
 use Rattle.refusal.proofs.Says.{Says, fails, says-so, below-suc}
 
+or-none : (o : Option ℕ) → orElse o none ≡ o
+or-none (some i) = refl
+or-none none = refl
+
+-- a last place that fails is not found
+pub lowest-last : (n : ℕ) (p : ℕ → Bool) → p n ≡ false → lowest (suc n) p ≡ lowest n p
+unfolding lowest
+lowest-last n p e = rw e (or-none (lowest n p))
+
 -- what the search answers
 pub data Searched (P : ℕ → Type 0) (n : ℕ) : Option ℕ → Type 0 where
   at : {i : ℕ} → Lowest P n i → Searched P n (some i)

@@ -15,9 +15,8 @@ use Rattle.refusal.proofs.Says.{Says, says-iff, says-and, says-if, says-all, sa
 use Rattle.bytes.specs.Little.{byte}
 use Rattle.layout.specs.Slots.{sizeOf}
 use Rattle.layout.specs.declared.ShapeKind.the-variants.{Point, Circle, Arc}
-use Rattle.record.specs.Kinds.{table, cell, kindAt, needsColumn, firstRule, lastRule, numberless}
-use Rattle.record.specs.Record.{labelPlaces}
-use Rattle.record.proofs.Cells.{looked, needs-is}
+use Rattle.kinds.specs.Kinds.{table, cell, kindAt, needsColumn, firstRule, lastRule, numberless, labelPlaces}
+use Rattle.kinds.proofs.Cells.{looked, needs-is}
 use Rattle.row.specs.declared.Row.{Row as Held}
 use Rattle.row.specs.Row.{Row, held, bytesOf, encodeRow, encodeRows, RowFits, rowBytes, rowMark, mostIds, rowNo, rowOf, heldIn}
 use Rattle.row.proofs.Back.{noRow, fields-back, rows-length, rows-count, row-no}

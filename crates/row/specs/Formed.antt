@@ -10,8 +10,7 @@ use Rattle.refusal.specs.First.{EachBelow, allBelow}
 use Rattle.bytes.specs.Little.{byte}
 use Rattle.layout.specs.Slots.{sizeOf}
 use Rattle.layout.specs.declared.ShapeKind.the-variants.{Point, Circle, Arc}
-use Rattle.record.specs.Kinds.{Kind, kindAt, firstRule, lastRule, Rule, numberless}
-use Rattle.record.specs.Record.{labelPlaces}
+use Rattle.kinds.specs.Kinds.{Kind, kindAt, firstRule, lastRule, Rule, numberless, labelPlaces}
 use Rattle.record.specs.Sound.{Third}
 use Rattle.row.specs.declared.Row.{Row as Held}
 use Rattle.row.specs.Row.{rowBytes, rowMark, mostIds, rowNo, heldIn}

@@ -5,23 +5,21 @@ ghost use lib.ListN.{length};
 ghost use Rattle.refusal.specs.First.{allBelow};
 ghost use Rattle.layout.specs.Slots.{sizeOf};
 ghost use Rattle.layout.specs.declared.ShapeKind.the-variants.{Arc};
-ghost use Rattle.record.specs.Kinds.{table, kindAt};
-ghost use Rattle.record.specs.Record.{labelPlaces};
+ghost use Rattle.kinds.specs.Kinds.{table, kindAt, labelPlaces};
 ghost use Rattle.row.specs.Row.{rowBytes, mostIds, rowNo};
 ghost use Rattle.row.specs.Formed.{idsAt, idsOf, clearAt, heldTest, rowTest, rowsTest};
 use super::MARK;
 use super::ROW;
 use super::Row;
 use super::decode_row;
+use kinds::FIRST_RULE;
+use kinds::KINDS;
+use kinds::LAST_RULE;
+use kinds::NEEDS;
+use kinds::NONE;
 use layout::VARS_PER_ARC;
 use layout::VARS_PER_CIRCLE;
 use layout::VARS_PER_POINT;
-use record::kinds;
-use record::kinds::FIRST_RULE;
-use record::kinds::KINDS;
-use record::kinds::LAST_RULE;
-use record::kinds::NEEDS;
-use record::kinds::NONE;
 
 // How many ids label place q of a kind comes to, by what it needs.
 fn ids_at(kinds: &[[u8; 8]; 26], kind: u8, q: usize) -> usize

@@ -92,10 +92,6 @@ module _ (p : ℕ → Bool) (s : List ℕ) (i : ℕ) where
   unfolding runTo
   runTo-end h = rw (run-end h) (omega arith)
 
-  pub runTo-ahead : i ≤ runTo p s i
-  unfolding runTo
-  runTo-ahead = omega arith
-
 -- each byte of a run passes, and what follows the run is the rest of the text
 pub run-each : (p : ℕ → Bool) (l : List ℕ) → Each (λ b. p b ≡ true) (leading p l)
 run-each p [] = tt

@@ -15,7 +15,7 @@ use Rattle.refusal.proofs.Says.{says-eq, stable}
 use Rattle.layout.specs.Slots as layout
 use Rattle.layout.proofs.Laws.{can-be}
 use Rattle.layout.specs.Refusals.{impossible}
-use Rattle.record.specs.Kinds.{firstRule, lastRule}
+use Rattle.kinds.specs.Kinds.{firstRule, lastRule}
 use Rattle.record.specs.Entry.{Label, Entry, noEntry, entryAt, labelNo}
 use Rattle.ground.proofs.UpTo.{getD-up-to}
 use Rattle.names.specs.Labels.{kindNo, nameNo, within}

@@ -8,7 +8,7 @@ use native.Mathlib.Omega.{arith}
 use lib.ListN.{length}
 use Rattle.refusal.specs.First.{passed, EachBelow, SomeBelow}
 use Rattle.refusal.proofs.Says.{stable}
-use Rattle.record.specs.Kinds.{kindAt, Declaration, Rule, Guess}
+use Rattle.kinds.specs.Kinds.{kindAt, Declaration, Rule, Guess}
 use Rattle.record.specs.Entry.{Label, Entry, entryAt, labelNo}
 use Rattle.record.specs.Sound.{Sound}
 use Rattle.record.specs.Formed.{unsound}
@@ -23,7 +23,7 @@ use Rattle.drawing.specs.Faults as faults
 use faults.{Meets, Guessed, AnyUnguessed, malformed, declared-twice, wrong-label, guessed-twice, without-guess}
 use Rattle.drawing.specs.Check.{checkOf}
 use Rattle.drawing.proofs.Agree.{says-meets, says-guessed, check-passes}
-use Rattle.record.proofs.Table.{declared-label}
+use Rattle.kinds.proofs.Table.{declared-label}
 use Rattle.drawing.proofs.Numbers.{declares}
 use Rattle.lowering.specs.Demand.{Declares}
 use Rattle.lowering.specs.Sketch.{byKind}

@@ -9,7 +9,7 @@ use lib.Dec.{eqb}
 use lib.ListN.{length, getD, set, replicate, length-set}
 use Rattle.ground.proofs.Lists.{either-le}
 use Rattle.refusal.proofs.Says.{refuted, fails}
-use Rattle.record.specs.Kinds.{newPoint, newCircle, newArc, Declaration}
+use Rattle.kinds.specs.Kinds.{newPoint, newCircle, newArc, Declaration}
 use Rattle.record.specs.Record.{mostRecords}
 use Rattle.record.specs.Decode.{countOf, decodeAt}
 use Rattle.names.specs.Labels.{within}

@@ -5,7 +5,7 @@ use Prim.Native.Nat.{ℕ, _+_, _*_, _≤_, _<_}
 use native.Mathlib.Omega.{arith}
 use lib.ListN.{length, length-map}
 use Rattle.layout.specs.Slots.{idsEnd}
-use Rattle.record.specs.Kinds.{Rule, firstRule, lastRule}
+use Rattle.kinds.specs.Kinds.{Rule, firstRule, lastRule}
 use Rattle.record.specs.Entry.{Entry, noEntry, entryAt}
 use Rattle.names.specs.Labels.{kindNo}
 use Rattle.lowering.specs.Slots.{slots}

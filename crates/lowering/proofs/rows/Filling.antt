@@ -14,12 +14,11 @@ use Rattle.ground.proofs.UpTo.{getD-up-to, up-to-more}
 use Rattle.store.specs.Store.{written, Put}
 use Rattle.store.proofs.Laws.{written-length, written-none}
 use Rattle.layout.proofs.Onward.{over-front}
-use Rattle.record.specs.Record.{labelPlaces}
-use Rattle.record.specs.Kinds.{kindAt, needsColumn, table, cell, firstRule, lastRule}
-use Rattle.record.proofs.Cells.{looked, needs-is}
+use Rattle.kinds.specs.Kinds.{kindAt, needsColumn, table, cell, firstRule, lastRule, labelPlaces}
+use Rattle.kinds.proofs.Cells.{looked, needs-is}
 use Rattle.names.specs.Labels.{within}
 use Rattle.drawing.specs.Needs.{codeAt}
-use Rattle.record.proofs.Table.{few-labels}
+use Rattle.kinds.proofs.Table.{few-labels}
 use Rattle.row.specs.Row.{mostIds, rowBytes, eight, bytesOf, encodeRow}
 use Rattle.row.proofs.Back.{length-row}
 use Rattle.lowering.specs.Lower.{onto}

@@ -6,7 +6,7 @@ use native.Mathlib.Omega.{arith}
 use lib.ListN.{length, getD, List·getD-eq-default}
 use Rattle.ground.proofs.Pieces.{Each, each-map, map-each, picks-each}
 use Rattle.layout.specs.Slots.{idsEnd}
-use Rattle.record.specs.Kinds.{firstRule, lastRule}
+use Rattle.kinds.specs.Kinds.{firstRule, lastRule}
 use Rattle.record.specs.Entry.{Entry, noEntry, entryAt}
 use Rattle.ground.proofs.UpTo.{getD-up-to}
 use Rattle.names.specs.Labels.{kindNo}

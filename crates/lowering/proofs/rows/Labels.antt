@@ -19,7 +19,7 @@ use Rattle.refusal.proofs.Says.{Says, refuted, says-so, says-and, says-not, say
 use Rattle.layout.specs.Slots.{idsEnd}
 use Rattle.layout.specs.Push.{onward}
 use Rattle.layout.proofs.Onward.{length-onward, getD-onward}
-use Rattle.record.specs.Kinds.{kindAt, Rule, firstRule}
+use Rattle.kinds.specs.Kinds.{kindAt, Rule, firstRule}
 use Rattle.record.specs.Entry.{Label, Entry, entryAt, labelNo}
 use Rattle.names.specs.Labels.{kindNo, nameNo, same}
 use Rattle.names.specs.Cut.{KnownPart}

@@ -7,7 +7,7 @@ use lib.ListN.{length}
 use Rattle.ground.specs.Lists.{flat, upTo}
 use Rattle.ground.proofs.Pieces.{flat-append}
 use Rattle.ground.proofs.UpTo.{getD-up-to, up-to-same, map-up-to}
-use Rattle.record.specs.Kinds.{kindAt}
+use Rattle.kinds.specs.Kinds.{kindAt}
 use Rattle.record.specs.Decode.{countOf, decodeAt}
 use Rattle.record.specs.Entry.{Entry, entryAt, named, entryOf}
 use Rattle.record.specs.Laid.{LaidOut}
@@ -15,7 +15,7 @@ use Rattle.names.specs.Labels.{drawn, kindNo}
 use Rattle.names.specs.Names.{nameFor, namesOf}
 use Rattle.names.proofs.Drawn.{decode-here, drawn-length, drawn-at, drawn-kind}
 use Rattle.names.proofs.Tables.{names-at}
-use Rattle.record.proofs.Table.{few-labels}
+use Rattle.kinds.proofs.Table.{few-labels}
 use Rattle.row.specs.Row.{encodeRow, encodeRows}
 use Rattle.lowering.specs.Rows.{rowsOf}
 use Rattle.lowering.specs.Sketch.{lineFor, sketch, firstIn, rowIf}

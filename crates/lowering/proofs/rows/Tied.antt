@@ -10,7 +10,7 @@ use Rattle.ground.specs.Lists.{flat, upTo}
 use Rattle.ground.proofs.Pieces.{getD-map}
 use Rattle.layout.specs.Slots.{idsEnd}
 use Rattle.record.specs.Record.{mostRecords}
-use Rattle.record.specs.Kinds.{Rule}
+use Rattle.kinds.specs.Kinds.{Rule}
 use Rattle.record.specs.Entry.{Entry, entryAt}
 use Rattle.names.specs.Labels.{kindNo}
 use Rattle.names.specs.Names.{nameFor}

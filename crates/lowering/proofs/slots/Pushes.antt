@@ -15,7 +15,7 @@ use Rattle.layout.specs.Run.{run, shapesOf, runOf, RunRoom}
 use Rattle.layout.proofs.Onward.{length-onward}
 use Rattle.layout.proofs.Runs.{kept}
 use Rattle.layout.proofs.Claims.{all-accepted}
-use Rattle.record.specs.Kinds.{newPoint, newCircle, newArc}
+use Rattle.kinds.specs.Kinds.{newPoint, newCircle, newArc}
 use Rattle.drawing.proofs.Laws.{count-le}
 use Rattle.lowering.specs.Lower.{onto}
 use Rattle.lowering.specs.Sketch.{manyOf, layoutIn, pairOf, circleOf, arcOf, ofKind, figuresIn, valuesIn}

@@ -7,7 +7,7 @@ use lib.ListN.{length, getD, drop, length-map, List·getD-append}
 use lib.Ieee.{Float, nan}
 use Rattle.refusal.specs.First.{EachBelow, SomeBelow}
 use Rattle.refusal.proofs.Says.{refuted}
-use Rattle.record.specs.Kinds.{pairGuess, numberGuess, Guess}
+use Rattle.kinds.specs.Kinds.{pairGuess, numberGuess, Guess}
 use Rattle.record.specs.Entry.{Label, Entry}
 use Rattle.names.specs.Labels.{kindNo, nameNo, labelled, lowestOr}
 use Rattle.names.proofs.First.{lowest-here}

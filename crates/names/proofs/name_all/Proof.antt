@@ -3,7 +3,7 @@ use borrow.Author.Needs.{needs}
 use mathlib.Core.Path.{refl}
 use Prim.Native.Nat.{_-_, _*_, _≤_}
 use native.Mathlib.Omega.{arith}
-use Rattle.record.specs.Record.{labelPlaces}
+use Rattle.kinds.specs.Kinds.{labelPlaces}
 use Rattle.record.specs.Decode.{countOf}
 use Rattle.names.specs.Labels.{drawn}
 use Rattle.names.specs.Steps.{NamedUpTo}

@@ -4,14 +4,14 @@ use borrow.Author.Needs.{needs}
 use mathlib.Core.Path.{_≡_, ap, _∙_}
 use Prim.Native.Nat.{ℕ, _+_, _-_, _*_, _≤_, _<_}
 use native.Mathlib.Omega.{arith}
-use Rattle.record.specs.Kinds.{kindAt}
-use Rattle.record.specs.Record.{mostRecords, labelPlaces}
+use Rattle.kinds.specs.Kinds.{kindAt, labelPlaces}
+use Rattle.record.specs.Record.{mostRecords}
 use Rattle.record.specs.Decode.{decodeAt}
-use Rattle.record.proofs.Cells.{looked, labels-is}
+use Rattle.kinds.proofs.Cells.{looked, labels-is}
 use Rattle.names.specs.Labels.{drawn, kindNo}
 use Rattle.names.specs.Names.{nameIn}
 use Rattle.names.specs.Steps.{NamedUpTo}
-use Rattle.record.proofs.Table.{few-labels}
+use Rattle.kinds.proofs.Table.{few-labels}
 use Rattle.names.proofs.Drawn.{drawn-kind}
 use Rattle.names.proofs.Tables.{name-there, named-more, named-on, absent-behind}
 use Rattle.names.proofs.name_record.Statement.{statement}

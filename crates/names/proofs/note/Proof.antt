@@ -6,8 +6,8 @@ use Prim.Native.Nat.{_+_, _-_, _*_, _≤_, _<_}
 use native.Mathlib.Omega.{arith}
 use lib.Dec.{leb}
 use Rattle.ground.proofs.Lists.{and-second}
-use Rattle.record.specs.Kinds.{pairGuess}
-use Rattle.record.specs.Record.{mostRecords, labelPlaces}
+use Rattle.kinds.specs.Kinds.{pairGuess, labelPlaces}
+use Rattle.record.specs.Record.{mostRecords}
 use Rattle.record.specs.Decode.{countOf}
 use Rattle.names.specs.Names.{placeBy, guessPlaces}
 use Rattle.names.specs.Steps.{NotedFrom}

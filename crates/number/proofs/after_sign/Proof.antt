@@ -11,6 +11,6 @@ pub after-sign-spec : {M : Type 1} → statement M
 unfolding stepOver
 after-sign-spec =
     tie.close (tie.spec (λ c κs. search needs) (λ c κs. search needs)
-    (λ c. let a = c .before .before .before .before .args in omega (arith, inside isSign (a .text .now) (a .at) refl (cc)))
+    (λ c. let a = c .before .before .before .before .args in omega (arith, inside isSign (a .text .now) (a .at) refl (rw (← c .before .before .byte-at .ensures, ← c .before .is-sign .ensures) (c .if1 .taken))))
     (λ c. rw (← c .before .before .byte-at .ensures, ← c .before .is-sign .ensures, c .if1 .taken))
     (λ c. rw (← c .before .before .byte-at .ensures, ← c .before .is-sign .ensures, c .if1 .left)))

@@ -12,7 +12,7 @@ pub exponent-at-spec : {M : Type 1} → statement M
 unfolding exponentAt
 exponent-at-spec =
     tie.close (tie.spec (λ c κs. search needs) (λ c κs. search needs)
-    (λ c. let a = c .before .before .before .before .args in omega (arith, inside isExponent (a .text .now) (a .at) refl (cc)))
+    (λ c. let a = c .before .before .before .before .args in omega (arith, inside isExponent (a .text .now) (a .at) refl (rw (← c .before .before .byte-at .ensures, ← c .before .is-exponent .ensures) (c .if1 .taken))))
     (λ c κs. search needs) (λ c κs. search needs)
     (λ c.
     let a = c .before .before in

@@ -29,4 +29,5 @@ number-at-spec =
     let digits = d .mantissa-at .ensures in
     let short : d .mantissa-at .result .count < 2 ^ 63 = omega (arith, few digits) in
     rw (← w .before .before .after-sign .ensures, ← w .before .byte-at .ensures, ← w .is-word .ensures, d .before .if1 .left)
-    (rw (← digits .none-is, c .before .before .before .if2 .left, ← digits .count-is, ← scaled-capped) (cc))))
+    (rw (← digits .none-is, c .before .before .before .if2 .left, ← digits .count-is, ← scaled-capped)
+    (rw (← digits .m-is, ← digits .end-is, ← c .before .before .exponent-at .ensures, ← c .before .byte-at2 .ensures) (c .scale-by .ensures)))))

@@ -7,8 +7,8 @@ use Prim.Native.Nat.{ℕ, _-_, _≤_}
 use native.Mathlib.Omega.{arith}
 use Rattle.ground.proofs.Lists.{either-le}
 use Rattle.refusal.specs.First.{EachBelow, anyBelow}
-use Rattle.record.specs.Kinds.{kindAt, firstRule, lastRule}
-use Rattle.record.proofs.Table.{few-labels}
+use Rattle.kinds.specs.Kinds.{kindAt, firstRule, lastRule}
+use Rattle.kinds.proofs.Table.{few-labels}
 use Rattle.names.specs.Labels.{within}
 use Rattle.drawing.specs.Numbers.{wrongName, anyWrongName}
 use Rattle.drawing.proofs.Laws.{any-here, any-none, any-if, labels-read}

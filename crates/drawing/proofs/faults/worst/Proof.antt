@@ -8,7 +8,7 @@ use Rattle.refusal.specs.Worst.{rankAt, worst}
 use Rattle.record.specs.Decode.{countOf}
 use Rattle.drawing.specs.Faults.{behind30}
 use Rattle.drawing.specs.Numbers.{lentNumbers, testBy}
-use Rattle.drawing.proofs.Ranks.{worst-more}
+use Rattle.refusal.proofs.ByPlaces.{worst-more}
 use Rattle.drawing.proofs.faults.worst.Statement.{statement}
 use Rattle.drawing.proofs.faults.worst.Tie as tie
 

@@ -1,6 +1,6 @@
 -- `forms::declarations::declaration` meets its contract: the words of the three declarations begin with three bytes. Assumes nothing.
 use borrow.Author.Needs.{needs}
-use Rattle.record.specs.Kinds.{newPoint, newCircle, newArc}
+use Rattle.kinds.specs.Kinds.{newPoint, newCircle, newArc}
 use Rattle.forms.proofs.Begin.{declared-or, not-declared}
 use borrow.Author.Tests.{ne-eqb}
 use mathlib.Core.Path.{refl, sym, _∙_}

@@ -2,7 +2,7 @@
 use borrow.Author.Needs.{needs}
 use borrow.Author.Tests.{not-true}
 use mathlib.Core.Path.{sym}
-use Rattle.record.specs.Kinds.{wordOf}
+use Rattle.kinds.specs.Kinds.{wordOf}
 use Rattle.forms.specs.Forms.{declareOn}
 use Rattle.forms.proofs.Table.{word-fits, word-begins}
 use Rattle.forms.proofs.Words.{no-declaration}

@@ -1,7 +1,7 @@
 -- `forms::keywords::keyword_form` meets its contract: it is its definition, call by call, with what it looks up in the table. Assumes nothing.
 use borrow.Author.Needs.{needs}
-use Rattle.record.specs.Kinds.{wordOf, with-gap}
-use Rattle.record.proofs.Cells.{looked, looked-same, labels-is, number-is, gap-is}
+use Rattle.kinds.specs.Kinds.{wordOf, with-gap}
+use Rattle.kinds.proofs.Cells.{looked, looked-same, labels-is, number-is, gap-is}
 use Rattle.forms.specs.Forms.{keywordOn}
 use Rattle.forms.proofs.Table.{word-fits, word-begins}
 use Rattle.forms.proofs.keywords.keyword_form.Statement.{statement}

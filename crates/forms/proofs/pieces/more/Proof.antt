@@ -7,5 +7,5 @@ use Rattle.forms.proofs.pieces.more.Tie as tie
 pub more-spec : {M : Type 1} → statement M
 unfolding moreOn
 more-spec =
-    tie.close (tie.spec (λ c κs. search needs) (λ c κs. search needs) (λ c. rw (c .before .before .if1 .taken) (cc)) (λ c κs. search needs)
+    tie.close (tie.spec (λ c κs. search needs) (λ c κs. search needs) (λ c. rw (c .before .before .if1 .taken, ← c .before .around .ensures, ← c .parse-label .ensures)) (λ c κs. search needs)
     (λ c. rw (c .before .if1 .left) (c .no-label .ensures)))

@@ -3,7 +3,7 @@ use mathlib.Core.List.{append-assoc}
 use borrow.Author.Tests.{eq-eqb, ne-eqb}
 use borrow.Author.Needs.{needs}
 use mathlib.Core.Path.{_∙_}
-use Rattle.record.proofs.Cells.{thirds-is, number-is}
+use Rattle.kinds.proofs.Cells.{thirds-is, number-is}
 use Rattle.rail.proofs.Added.{both, said}
 use Rattle.rail.specs.Words.{spaced}
 use Rattle.lines.proofs.words.from_third.Statement.{statement}

@@ -3,7 +3,7 @@ use mathlib.Core.Path.{_≡_, sym}
 use native.Mathlib.Omega.{arith}
 use lib.ListN.{length, List·getD-eq-default}
 use borrow.Author.Needs.{needs}
-use Rattle.record.specs.Record.{labelPlaces}
+use Rattle.kinds.specs.Kinds.{labelPlaces}
 use Rattle.record.specs.Entry.{noView}
 use Rattle.lines.proofs.words.view_of.Statement.{statement}
 use Rattle.lines.proofs.words.view_of.Tie as tie

@@ -4,8 +4,8 @@ use Prim.Native.Nat.{_+_, _*_, _-_, _<_}
 use mathlib.Core.Path.{_≡_, _∙_}
 use lib.ListN.{length}
 use Rattle.ground.proofs.UpTo.{length-up-to}
-use Rattle.record.specs.Kinds.{kindAt}
-use Rattle.record.proofs.Table.{few-labels}
+use Rattle.kinds.specs.Kinds.{kindAt}
+use Rattle.kinds.proofs.Table.{few-labels}
 use Rattle.drawing.proofs.Laws.{labels-read}
 use Rattle.lowering.specs.Sketch.{spanAt, spanIds, idsBy}
 use Rattle.lowering.specs.Steps.{namesAt, firstAt}

@@ -1,6 +1,6 @@
 -- `lowering::rules::write_row` meets its contract: one row, or none. Assumes nothing.
 use Rattle.names.proofs.Laws.{says-within}
-use Rattle.record.specs.Kinds.{firstRule, lastRule}
+use Rattle.kinds.specs.Kinds.{firstRule, lastRule}
 use Rattle.lowering.proofs.rows.Filling.{wrote-none, wrote-row}
 use borrow.Author.Needs.{needs}
 use Rattle.lowering.proofs.rules.write_row.Statement.{statement}

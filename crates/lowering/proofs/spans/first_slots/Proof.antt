@@ -2,7 +2,7 @@
 use mathlib.Core.Logic.{⊎-elim}
 use native.Mathlib.Omega.{arith}
 use Prim.Native.Nat.{_-_}
-use Rattle.record.specs.Kinds.{newPoint, newArc, Declaration}
+use Rattle.kinds.specs.Kinds.{newPoint, newArc, Declaration}
 use Rattle.record.specs.Decode.{countOf}
 use Rattle.names.proofs.Laws.{says-within}
 use Rattle.lowering.proofs.ids.Firsts.{size-small, counts-small, Placing, placing-start, place-small, placing-turn, placing-skip, placing-end}

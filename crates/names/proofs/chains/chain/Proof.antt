@@ -7,7 +7,7 @@ use Prim.Native.Nat.{_+_, _-_, _≤_, _<_}
 use native.Mathlib.Omega.{arith}
 use lib.ListN.{length, length-set}
 use Rattle.refusal.proofs.Says.{refuted}
-use Rattle.record.specs.Kinds.{newPoint, newArc}
+use Rattle.kinds.specs.Kinds.{newPoint, newArc}
 use Rattle.record.specs.Record.{mostRecords}
 use Rattle.record.specs.Decode.{countOf}
 use Rattle.names.specs.Labels.{drawn, kindNo, within}

@@ -4,9 +4,9 @@ use borrow.Author.Needs.{needs}
 use mathlib.Core.Path.{_≡_, sym, _∙_}
 use Prim.Native.Nat.{_+_, _-_, _<_}
 use native.Mathlib.Omega.{arith}
-use Rattle.record.specs.Record.{labelPlaces}
+use Rattle.kinds.specs.Kinds.{labelPlaces}
 use Rattle.record.specs.Decode.{decodeAt}
-use Rattle.record.proofs.Table.{few-labels}
+use Rattle.kinds.proofs.Table.{few-labels}
 use Rattle.names.proofs.Drawn.{view-inside, label-read, drawn-label}
 use Rattle.names.proofs.labels.label_of.Statement.{statement}
 use Rattle.names.proofs.labels.label_of.Tie as tie

@@ -5,11 +5,11 @@ use mathlib.Core.Bool.{_&&_}
 use lib.Dec.{leb}
 use lib.ListN.{length}
 use Rattle.bytes.specs.Little.{byte}
-use Rattle.record.specs.Kinds.{with-point}
+use Rattle.kinds.specs.Kinds.{with-point}
 use Rattle.record.specs.Record.{longestText}
 use Rattle.record.specs.Decode.{decode}
 use Rattle.record.specs.Laid.{spelledAll}
-use Rattle.record.proofs.Cells.{looked-same, dotted-is}
+use Rattle.kinds.proofs.Cells.{looked-same, dotted-is}
 use Rattle.record.proofs.Records.{some-count, inside-here}
 use Rattle.record.proofs.sound.labelled.Statement.{statement}
 use Rattle.record.proofs.sound.labelled.Tie as tie

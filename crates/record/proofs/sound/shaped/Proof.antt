@@ -5,11 +5,11 @@ use mathlib.Core.Path.{_≡_, sym, _∙_}
 use native.Mathlib.Omega.{arith}
 use borrow.Author.Tests.{not-true, not-false}
 use Rattle.bytes.specs.Little.{byte}
-use Rattle.record.specs.Kinds.{kindAt}
+use Rattle.kinds.specs.Kinds.{kindAt}
 use Rattle.record.specs.Record.{mark}
 use Rattle.record.specs.Laid.{headBy, shapeTest}
-use Rattle.record.proofs.Table.{guess-labels}
-use Rattle.record.proofs.Cells.{looked, labels-is, thirds-is, number-is}
+use Rattle.kinds.proofs.Table.{guess-labels}
+use Rattle.kinds.proofs.Cells.{looked, labels-is, thirds-is, number-is}
 use Rattle.refusal.proofs.Says.{says-and, says-if, says-eq, says-le, says-lt}
 use Rattle.record.proofs.sound.shaped.Statement.{statement}
 use Rattle.record.proofs.sound.shaped.Tie as tie

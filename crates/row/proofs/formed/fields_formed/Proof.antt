@@ -1,6 +1,6 @@
 -- `row::formed::fields_formed` meets its contract: it makes the tests of the definition, by the columns of the table. Assumes nothing.
 use borrow.Author.Needs.{needs}
-use Rattle.record.proofs.Cells.{looked, thirds-is, number-is}
+use Rattle.kinds.proofs.Cells.{looked, thirds-is, number-is}
 use Rattle.row.proofs.formed.fields_formed.Statement.{statement}
 use Rattle.row.proofs.formed.fields_formed.Tie as tie
 
