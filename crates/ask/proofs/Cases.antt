@@ -5,29 +5,27 @@ use mathlib.Core.List.{List}
 use Prim.Native.Nat.{ℕ, _≤_, _<_}
 use native.Mathlib.Omega.{arith}
 use lib.Dec.{eqb, ltb}
-use borrow.Author.Tests.{lt-ltb, le-ltb}
+use borrow.Author.Tests.{eqb-true, eq-eqb, lt-ltb, le-ltb}
 use Rattle.refusal.proofs.Says.{refuted, stable, says-once, says-and, says-iff, says-eq, says-lt}
 use Rattle.ask.specs.Steps.{NamesLabel}
 use Rattle.kinds.specs.Kinds.{kindAt, angle}
 use Rattle.record.specs.Decode.{decode}
-use Rattle.record.specs.Entry.{noView, viewOf, entryOf}
+use Rattle.record.specs.Entry.{noView, viewOf}
 use Rattle.record.specs.Sound.{Good, goodTest, goodKind}
 use Rattle.ask.specs.Ask.{labelOf, labelFrom}
 use Rattle.record.proofs.Agree.{says-good}
+use Rattle.record.proofs.Records.{kind-of, says-bad, kind-good}
 
 module _ (text b : List ℕ) where
   -- the kind of a good record is not 0, and that of any other bytes is
-  pub good-of-kind : (goodKind text b ≡ 0 → ⊥) → Good text b
-  unfolding goodKind
-  good-of-kind f = stable (says-good text b) (λ g. f (rw (refuted (says-good text b) g) refl))
-
-  kind-of : Good text b → goodKind text b ≡ decode b .kind
-  unfolding goodKind
-  kind-of g = rw (says-good text b .back g) refl
-
   pub bad-of-kind : goodKind text b ≡ 0 → Good text b → ⊥
-  unfolding entryOf
-  bad-of-kind z g = omega (arith, z, kind-of g, g .sound .known .0)
+  bad-of-kind z = says-bad text b true .so (eq-eqb _ _ (kind-good text b ∙ z))
+
+  pub good-of-kind : (goodKind text b ≡ 0 → ⊥) → Good text b
+  good-of-kind f = stable (says-good text b) (λ g. f (sym (kind-good text b) ∙ eqb-true _ _ (says-bad text b true .back g)))
+
+  kind-is : Good text b → goodKind text b ≡ decode b .kind
+  kind-is g = sym (kind-good text b) ∙ kind-of text b true g
 
   -- ---- labels
 
@@ -62,5 +60,5 @@ module _ (text b : List ℕ) where
   pub angle-test : goodTest text b && eqb (kindAt (decode b .kind) .number) angle ≡ eqb (kindAt (goodKind text b) .number) angle
   angle-test =
       says-once (says-and (says-good text b) (says-eq (kindAt (decode b .kind) .number) angle))
-      (says-iff (λ e. let g = angle-good e in (g, rw (kind-of g) at e)) (λ w. rw (kind-of (w .0)) (w .1))
+      (says-iff (λ e. let g = angle-good e in (g, rw (kind-is g) at e)) (λ w. rw (kind-is (w .0)) (w .1))
       (says-eq (kindAt (goodKind text b) .number) angle))

@@ -1,14 +1,11 @@
--- Searches for any, counts, and what the table of kinds tells. Assumes nothing.
+-- Searches for any, and counts. Assumes nothing.
 use mathlib.Core.Path.{_≡_, refl, sym, _∙_}
 use mathlib.Core.Bool.{Bool, true, false, _&&_, cond, true≢false}
-use mathlib.Core.List.{List}
 use Prim.Native.Nat.{ℕ, zero, suc, _≤_, _<_}
 use native.Mathlib.Omega.{arith}
 use Rattle.ground.proofs.Lists.{either-le}
 use Rattle.refusal.specs.First.{EachBelow, anyBelow}
 use Rattle.refusal.proofs.Says.{refuted, says-so, says-any}
-use Rattle.kinds.specs.Kinds.{kinds, kindAt, labelsColumn, table, cell}
-use Rattle.kinds.proofs.Cells.{labels-is}
 use Rattle.names.specs.Labels.{within}
 use Rattle.drawing.specs.Check.{countBelow}
 
@@ -46,11 +43,3 @@ pub count-le : (kinds : ℕ → ℕ) (low high n : ℕ) → countBelow kinds low
 unfolding countBelow
 count-le kinds low high zero = omega arith
 count-le kinds low high (suc n) = omega (arith, count-le kinds low high n, either-le (within low high (kinds n)) 1 0 1 (omega arith) (omega arith))
-
--- ---- the table of kinds
-
--- the table as it is lent
-module _ (lent : List (List ℕ)) (is : lent ≡ table) (kind : ℕ) where
-  -- how many labels a kind has
-  pub labels-read : (n : ℕ) → n ≡ cell lent kind labelsColumn → n ≡ kindAt kind .labels
-  labels-read n e = e ∙ rw is (labels-is kind)

@@ -56,7 +56,7 @@ abbrev pub Allowed : ℕ → ℕ → ℕ → ℕ → ℕ → Type 0
 Allowed kind third count x y =
     Known kind × (Third kind third × ((count ≡ kindAt kind .labels) × ((kindAt kind .number ≡ numberless → x ≡ 0) × ((kindAt kind .number ≡ pair → ⊥) → y ≡ 0))))
 
-says-allowed : (kind third count x y : ℕ) → Says (fieldsTest (kindAt kind) third count x y) (Allowed kind third count x y)
+pub says-allowed : (kind third count x y : ℕ) → Says (fieldsTest (kindAt kind) third count x y) (Allowed kind third count x y)
 says-allowed kind third count x y =
     let k = kindAt kind in
     says-and (says-known kind)

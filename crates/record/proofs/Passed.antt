@@ -18,8 +18,8 @@ use Rattle.refusal.proofs.Search.{stops-here, goes-through}
 use Rattle.record.specs.declared.formed.Formed.the-variants as formed
 use Rattle.record.specs.Record.{recordBytes, mostRecords, longestText, firstGuess}
 use Rattle.record.specs.Decode.{isGuess, decode, countOf, recordOf}
-use Rattle.record.specs.Formed.{malformedAt, misplaced, verdict}
-use Rattle.record.specs.Laid.{kindTold, guessBy, inLimits, fineBy, formedBy, ListOf}
+use Rattle.record.specs.Formed.{ListOf, malformedAt, misplaced, verdict}
+use Rattle.record.specs.Laid.{kindTold, guessBy, inLimits, fineBy, formedBy}
 use Rattle.record.proofs.Told.{none-told-iff}
 use Rattle.record.proofs.Records.{RecordBy, says-record, kind-of, says-bad}
 use Rattle.record.proofs.Parted.{GuessAt, OutOfPlace, parted, in-place, guess-in}

@@ -16,12 +16,12 @@ use Rattle.kinds.specs.Kinds.{newArc, kindAt, numberless, pair, labelPlaces, Kn
 use Rattle.record.specs.Record.{recordBytes, longestText, mark, firstGuess}
 use Rattle.record.specs.Decode.{viewAt, placeIn, hasPlace, decode}
 use Rattle.record.specs.Entry.{labelNo, named, entryOf, noView, viewOf}
-use Rattle.record.specs.Sound.{guessEnd, guessZeros, Plain, Framed, Spelled, Good, goodKind}
-use Rattle.record.specs.Laid.{restTest, shapeTest, recordTest, kindTold, LaidRecord}
-use Rattle.record.specs.Steps.{Shaped}
+use Rattle.record.specs.Sound.{guessEnd, guessZeros, Plain, Framed, Spelled, Good, framedTest, fieldsTest, goodKind}
+use Rattle.record.specs.Laid.{recordTest, kindTold, LaidRecord}
+use Rattle.record.specs.Steps.{restTest, shapeTest, Shaped}
 use Rattle.ground.proofs.UpTo.{getD-up-to}
 use Rattle.kinds.proofs.Table.{says-known, some-label, few-labels, guess-labels, declared-label}
-use Rattle.record.proofs.Agree.{Allowed, says-placed, count-is, all-spelled, says-good}
+use Rattle.record.proofs.Agree.{Allowed, says-allowed, says-framed, says-placed, count-is, all-spelled, says-good}
 use Rattle.record.proofs.Spelled.{says-spelled}
 
 -- the bytes are a good record's, in full, or those of a record that is laid out
@@ -63,6 +63,14 @@ module _ (text b : List ℕ) where
       (says-and (says-all _ _ (says-placed text r) labelPlaces)
       (says-and (says-if (says-le firstGuess (r .kind)) (says-all _ _ (λ j. says-eq (byte b (guessEnd + j)) 0) guessZeros))
       (says-and (says-if (says-eq (k .number) numberless) (says-eq (r .x) 0)) (says-unless (says-eq (k .number) pair) (says-eq (r .y) 0)))))))
+
+  -- and what its frame and its fields do: it is the same
+  says-fields : Says (framedTest (length text) b && fieldsTest (kindAt (decode b .kind)) (decode b .third) (decode b .count) (decode b .x) (decode b .y)) (Framed text b × Fields)
+  says-fields = says-and (says-framed text b) (says-allowed (decode b .kind) (decode b .third) (decode b .count) (decode b .x) (decode b .y))
+
+  pub shape-is : (eqb (length b) recordBytes && shapeTest (length text) b)
+      ≡ (framedTest (length text) b && fieldsTest (kindAt (decode b .kind)) (decode b .third) (decode b .count) (decode b .x) (decode b .y))
+  shape-is = says-once says-shape says-fields
 
   -- a record that is laid out has the shape, and the label of a declaration is a plain one
   laid-of : Framed text b × Fields → (decode b .kind ≤ newArc → Plain (named text (decode b) 0)) → LaidRecord text b
@@ -130,10 +138,10 @@ module _ (text b : List ℕ) where
       says-iff
       (λ w. laid-good (w .1 .0) (spelled-laid (w .0) (each .0 (w .1 .1))) (each .0 (w .1 .1)))
       (λ g. (shape-of (good-laid g), (g .short, each .1 (g .sound .spelled))))
-      (says-and says-shape (says-and (says-le (length text) longestText) (says-all _ _ (λ q. says-spelled (named text r q) (kindAt (r .kind) .dotted)) (r .count))))
+      (says-and says-fields (says-and (says-le (length text) longestText) (says-all _ _ (λ q. says-spelled (named text r q) (kindAt (r .kind) .dotted)) (r .count))))
   says-record false =
       says-iff (λ w. laid-of (w .0) (w .1)) (λ l. (shape-of l, l .plain))
-      (says-and says-shape (says-if (says-le (decode b .kind) newArc) (says-spelled (named text (decode b) 0) false)))
+      (says-and says-fields (says-if (says-le (decode b .kind) newArc) (says-spelled (named text (decode b) 0) false)))
 
   -- ---- its kind, and 0 of any other bytes
 

@@ -13,7 +13,4 @@ use Rattle.record.proofs.Entries.{told-by-kinds}
 pub well-formed-iff : (text bs : List ℕ) → (formedOf (entries text bs) ≡ formed.WellFormed) ↔ WellFormed text bs
 well-formed-iff text bs =
     let l = listed-iff true text bs in
-    let t = told-by-kinds text bs in (
-      (λ e. let w = l .0 (sym t ∙ e) in record { short = w .short; few = w .few; whole = w .whole; each = w .each; parted = w .parted }),
-      (λ w. t ∙ l .1 (record { short = w .short; few = w .few; whole = w .whole; each = w .each; parted = w .parted })),
-    )
+    let t = told-by-kinds text bs in (λ e. l .0 (sym t ∙ e), λ w. t ∙ l .1 w)

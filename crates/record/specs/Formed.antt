@@ -38,13 +38,17 @@ pub record Parted (bs : List ℕ) : Type 0 where
   pub before : EachBelow guesses (λ i. GuessOf bs i → ⊥)
   pub behind : (i : ℕ) → guesses ≤ i → i < countOf bs → GuessOf bs i
 
--- text and list within their limits, whole records, each a good one, and instructions before guesses
-pub record WellFormed (text bs : List ℕ) : Type 0 where
+-- text and list within their limits, whole records, each of which is of one sort, and instructions before guesses
+pub record ListOf (Each : List ℕ → Type 0) (text bs : List ℕ) : Type 0 where
   pub short : length text ≤ longestText
   pub few : countOf bs ≤ mostRecords
   pub whole : length bs % recordBytes ≡ 0
-  pub each : EachBelow (countOf bs) (λ i. Good text (recordOf bs i))
+  pub each : EachBelow (countOf bs) (λ i. Each (recordOf bs i))
   pub parted : Parted bs
+
+-- a list of good records
+abbrev pub WellFormed : List ℕ → List ℕ → Type 0
+WellFormed text bs = ListOf (Good text) text bs
 
 -- ---- the entries of a list
 

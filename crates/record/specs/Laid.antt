@@ -6,17 +6,16 @@ use mathlib.Core.List.{List}
 use Prim.Native.Nat.{ℕ, suc, _%_, _≤_}
 use lib.Dec.{leb, ltb, eqb}
 use lib.ListN.{length}
-use Rattle.refusal.specs.First.{EachBelow, anyBelow, allBelow, lowest}
-use Rattle.bytes.specs.Little.{byte}
+use Rattle.refusal.specs.First.{anyBelow, allBelow, lowest}
 use Rattle.record.specs.declared.Record.{Record}
 use Rattle.record.specs.declared.formed.Formed.{Formed}
 use Rattle.record.specs.declared.formed.Formed.the-variants as formed
 use Rattle.kinds.specs.Kinds.{newArc, kindAt, numberless, pair, Known}
-use Rattle.record.specs.Record.{recordBytes, mostRecords, longestText, mark}
+use Rattle.record.specs.Record.{recordBytes, mostRecords, longestText}
 use Rattle.record.specs.Decode.{isGuess, decode, countOf, recordOf}
 use Rattle.record.specs.Entry.{named}
-use Rattle.record.specs.Sound.{Plain, Framed, Third, spelledTest, allPlaced, endedTest}
-use Rattle.record.specs.Formed.{Parted, misplaced, verdict}
+use Rattle.record.specs.Sound.{Plain, Framed, Third, spelledTest, framedTest, fieldsTest}
+use Rattle.record.specs.Formed.{ListOf, misplaced, verdict}
 
 -- ---- in words
 
@@ -31,36 +30,11 @@ pub record LaidRecord (text b : List ℕ) : Type 0 where
   -- the label of a declaration is a plain one
   pub plain : decode b .kind ≤ newArc → Plain (named text (decode b) 0)
 
--- text and list within their limits, whole records, each of which is of one sort, and instructions before guesses
-pub record ListOf (Each : List ℕ → Type 0) (text bs : List ℕ) : Type 0 where
-  pub short : length text ≤ longestText
-  pub few : countOf bs ≤ mostRecords
-  pub whole : length bs % recordBytes ≡ 0
-  pub each : EachBelow (countOf bs) (λ i. Each (recordOf bs i))
-  pub parted : Parted bs
-
 -- a list of records that are laid out
 abbrev pub LaidOut : List ℕ → List ℕ → Type 0
 LaidOut text bs = ListOf (LaidRecord text) text bs
 
 -- ---- a record, as a test
-
--- the mark, the count of labels and the third byte of a record are as a kind with so many labels and third bytes allows
-abbrev pub headBy : ℕ → ℕ → List ℕ → Bool
-headBy labels thirds b =
-    (eqb (byte b 0) mark && (ltb 0 labels && eqb (byte b 3) labels)) && (leb (byte b 2) thirds && (not (ltb 0 thirds) || ltb 0 (byte b 2)))
-
--- the label places, the end and the numbers of a record are as its kind allows, over a text of n bytes
-unfoldable pub restTest : ℕ → List ℕ → Bool
-restTest n b =
-    let r = decode b in
-    let k = kindAt (r .kind) in
-    allPlaced r n
-    && (endedTest b (isGuess (r .kind)) && ((not (eqb (k .number) numberless) || eqb (r .x) 0) && (eqb (k .number) pair || eqb (r .y) 0)))
-
--- all of it is, but for the spelling of its labels
-unfoldable pub shapeTest : ℕ → List ℕ → Bool
-shapeTest n b = headBy (kindAt (byte b 1) .labels) (kindAt (byte b 1) .thirds) b && restTest n b
 
 -- each label of a record is spelled as one
 abbrev pub spelledAll : List ℕ → Record → Bool → Bool
@@ -73,7 +47,9 @@ labelTest false text r = not (leb (r .kind) newArc) || spelledTest false (named 
 
 -- the bytes are a good record's; not in full, they are but for the spelling of labels that no declaration has
 abbrev pub recordTest : Bool → List ℕ → List ℕ → Bool
-recordTest full text b = (eqb (length b) recordBytes && shapeTest (length text) b) && labelTest full text (decode b)
+recordTest full text b =
+    let r = decode b in
+    (framedTest (length text) b && fieldsTest (kindAt (r .kind)) (r .third) (r .count) (r .x) (r .y)) && labelTest full text r
 
 -- the kind of such a record, and 0 of any other bytes
 unfoldable pub kindTold : Bool → List ℕ → List ℕ → ℕ

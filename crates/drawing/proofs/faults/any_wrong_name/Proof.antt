@@ -8,10 +8,11 @@ use native.Mathlib.Omega.{arith}
 use Rattle.ground.proofs.Lists.{either-le}
 use Rattle.refusal.specs.First.{EachBelow, anyBelow}
 use Rattle.kinds.specs.Kinds.{kindAt, firstRule, lastRule}
+use Rattle.kinds.proofs.Cells.{looked, labels-is}
 use Rattle.kinds.proofs.Table.{few-labels}
 use Rattle.names.specs.Labels.{within}
 use Rattle.drawing.specs.Numbers.{wrongName, anyWrongName}
-use Rattle.drawing.proofs.Laws.{any-here, any-none, any-if, labels-read}
+use Rattle.drawing.proofs.Laws.{any-here, any-none, any-if}
 use Rattle.drawing.proofs.faults.any_wrong_name.Statement.{statement}
 use Rattle.drawing.proofs.faults.any_wrong_name.Tie as tie
 
@@ -25,7 +26,7 @@ abbrev μ-loop : tie.MeasureT-loop
 loop-holds : tie.Need-loop-holds Inv-loop μ-loop
 loop-holds c =
     let s = c .before .before .before in
-    let n = labels-read _ (s .pre .0) _ _ (c .before .look .ensures) in
+    let n = looked _ _ _ _ (s .pre .0) (c .before .look .ensures) (labels-is _) in
     let r = c .before .before .among .result in
     (rw (← c .before .before .among .ensures, ← n) (c .either .ensures), rw (c .either .ensures, n) (either-le r _ 0 4 (few-labels (s .args .kind)) (omega arith)), omega arith, below-none _)
 

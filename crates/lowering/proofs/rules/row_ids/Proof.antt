@@ -5,8 +5,8 @@ use mathlib.Core.Path.{_≡_, _∙_}
 use lib.ListN.{length}
 use Rattle.ground.proofs.UpTo.{length-up-to}
 use Rattle.kinds.specs.Kinds.{kindAt}
+use Rattle.kinds.proofs.Cells.{looked, labels-is}
 use Rattle.kinds.proofs.Table.{few-labels}
-use Rattle.drawing.proofs.Laws.{labels-read}
 use Rattle.lowering.specs.Sketch.{spanAt, spanIds, idsBy}
 use Rattle.lowering.specs.Steps.{namesAt, firstAt}
 use Rattle.lowering.proofs.rows.Filling.{Pieces, pieces-start, piece-fits, pieces-turn, pieces-end, span-read}
@@ -23,7 +23,7 @@ abbrev μ-loop : tie.MeasureT-loop
 
 -- how many labels there are
 labels : (c : tie.After-look Inv-loop μ-loop) → c .look .result ≡ kindAt (c .before .args .kind) .labels
-labels c = labels-read (c .before .args .kinds .now) (c .before .pre .0) (c .before .args .kind) _ (c .look .ensures)
+labels c = looked (c .before .args .kinds .now) (c .before .args .kind) _ _ (c .before .pre .0) (c .look .ensures) (labels-is (c .before .args .kind))
 
 -- one of them is meant
 one-of-them : (c : tie.In-loop Inv-loop μ-loop) → c .before .loop .q < kindAt (c .before .before .before .args .kind) .labels

@@ -6,7 +6,7 @@ use native.Mathlib.Omega.{arith}
 use borrow.Author.Tests.{le-leb, lt-leb}
 use Rattle.bytes.specs.Little.{byte}
 use Rattle.record.specs.Decode.{decode}
-use Rattle.record.specs.Laid.{restTest}
+use Rattle.record.specs.Steps.{restTest}
 use Rattle.record.proofs.sound.rest.Statement.{statement}
 use Rattle.record.proofs.sound.rest.Tie as tie
 

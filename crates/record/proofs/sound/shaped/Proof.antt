@@ -7,7 +7,7 @@ use borrow.Author.Tests.{not-true, not-false}
 use Rattle.bytes.specs.Little.{byte}
 use Rattle.kinds.specs.Kinds.{kindAt}
 use Rattle.record.specs.Record.{mark}
-use Rattle.record.specs.Laid.{headBy, shapeTest}
+use Rattle.record.specs.Steps.{headBy, shapeTest}
 use Rattle.kinds.proofs.Table.{guess-labels}
 use Rattle.kinds.proofs.Cells.{looked, labels-is, thirds-is, number-is}
 use Rattle.refusal.proofs.Says.{says-and, says-if, says-eq, says-le, says-lt}
