@@ -63,6 +63,9 @@ text ''
 told 0 'instructions 21 guesses 10 end 611' '' list drawings/bracket.txt
 told 0 'passed points 4 circles 3 arcs 0 rows 14' '' check drawings/bracket.txt
 told 0 'lowered points 4 circles 3 arcs 0 next 17' '' rows drawings/bracket.txt
+told 0 'instructions 21 guesses 10 end 598' '' list drawings/renamed.txt
+told 0 'passed points 4 circles 3 arcs 0 rows 14' '' check drawings/renamed.txt
+told 0 'lowered points 4 circles 3 arcs 0 next 17' '' rows drawings/renamed.txt
 told 0 'instructions 15 guesses 7 end 402' '' list drawings/plate.txt
 told 0 'passed points 2 circles 1 arcs 1 rows 11' '' check drawings/plate.txt
 told 0 'lowered points 2 circles 1 arcs 1 next 13' '' rows drawings/plate.txt
@@ -74,8 +77,14 @@ for command in list check rows; do
 done
 told 0 'instructions 15 guesses 6 end 372' '' read drawings/torn.txt
 
-# The plate's rows, worked out by hand, and the whole of what is said of a page.
-./desk rows drawings/plate.txt | cmp -s - tests/plate.rows || same "the plate's rows" differ equal
+# Rows worked out by hand, those of the bracket by the names of two branches; and the whole of what is said of a page.
+rows_are() { # PAGE ROWS
+    tried=$((tried + 1))
+    ./desk rows "drawings/$1.txt" | cmp -s - "tests/$2.rows" || same "desk rows drawings/$1.txt, all that is printed" differ equal
+}
+rows_are plate plate
+rows_are bracket bracket
+rows_are renamed bracket
 ./desk check drawings/torn.txt 2>&1 >"$room/out" | sed 1d >"$room/said"
 printf 'corner.center roughly (10,\n^\n' | cmp -s - "$room/said" || same "the torn page's line and mark" differ equal
 

@@ -156,24 +156,22 @@ def short_labels(count):
     return ["".join(pair) for pair in itertools.islice(itertools.product(SIGNS, repeat=2), count)]
 
 
-def of_arcs(count, rules):
-    """A drawing of so many arcs, with so many rules."""
-    labels = short_labels(count)
-    lines = ["arc" + label for label in labels] + ["is_arc(%s)" % labels[at % count] for at in range(rules)]
+def of_arcs(labels, rules):
+    """A drawing of arcs with these labels, with so many rules."""
+    lines = ["arc" + label for label in labels] + ["is_arc(%s)" % labels[at % len(labels)] for at in range(rules)]
     guesses = ["%s.%s roughly(%d,1)" % (label, part, at) for at, label in enumerate(labels) for part in ("a", "b", "center")]
     return drawing.page("\n".join(lines), "\n".join(guesses))
 
 
-def of_points(count, rules):
-    """A drawing of so many points, with so many rules."""
-    labels = short_labels(count)
-    lines = ["point" + label for label in labels] + ["%s.y=%d" % (labels[-1 - at % count], at) for at in range(rules)]
+def of_points(labels, rules):
+    """A drawing of points with these labels, with so many rules."""
+    lines = ["point" + label for label in labels] + ["%s.y=%d" % (labels[-1 - at % len(labels)], at) for at in range(rules)]
     return drawing.page("\n".join(lines), "\n".join("%s roughly(%d,1)" % (label, at) for at, label in enumerate(labels)))
 
 
 def limits():
     """Drawings of 1,800 records, with the most slots and with many rows, and of one record more."""
-    return [of_arcs(450, 0), of_points(500, 800), of_points(500, 801)]
+    return [of_arcs(short_labels(450), 0), of_points(short_labels(500), 800), of_points(short_labels(500), 801)]
 
 
 # ---- batches

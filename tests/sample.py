@@ -9,6 +9,7 @@ to the drawings behind those texts, which the Rust doesn't check or lower. It st
 disagree, or where the sample lacks something.
 """
 import collections
+import itertools
 import os
 import sys
 
@@ -17,6 +18,7 @@ import compare
 import drawings
 import model
 import pages
+import renaming
 
 MOST_BATCH_BYTES = 1 << 20
 LEAST_TEXTS = 1600
@@ -29,6 +31,7 @@ READ_PAGES = 600
 OF_EACH_OUTCOME = 40
 SMALL_BETWEEN_LARGE = 40
 DRAWINGS = 300
+RENAMED = 60
 LEAST_PASSING = 100
 LEAST_OF_A_FAULT = 16
 LEAST_OF_A_ROW = 10
@@ -141,7 +144,8 @@ def main():
     answers = [due(whole, text, block) for (whole, text), block in zip(texts, told)]
     batch = b"".join(pages.entry(whole, text) for whole, text in texts)
     check(texts, answers, batch)
-    blocks = drawings.blocks(drawings.by_hand() + drawings.limits() + list(drawings.drawings(DRAWINGS)))
+    renamed = [text for pair in itertools.islice(renaming.good(renaming.made()), RENAMED) for text in pair[:2]]
+    blocks = drawings.blocks(drawings.by_hand() + drawings.limits() + list(drawings.drawings(DRAWINGS)) + renamed)
     check_drawings(blocks)
     batch += b"".join(block for block, _ in blocks)
     answers += [answer for _, answer in blocks]

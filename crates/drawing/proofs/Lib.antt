@@ -1,5 +1,6 @@
 pub mod Laws
 pub mod Agree
+pub mod Choices
 pub mod Told
 pub mod Numbers
 pub mod Ranks

@@ -72,7 +72,7 @@ module _ (es : List Entry) (w : Clear es) where
       back : Named es s suffix l → sortBy (nameFor es l) ≡ sortOf s suffix
       back (j, h, (e, n)) =
           let d : Declaration (kindNo es j) = rw e (declares s) in
-          unpacked j (kindNo es j) (partNo suffix) (nameFor es l) (part-small suffix) (d .1) (name-of es w j suffix l h d k n) .1 ∙ rw e refl
+          unpacked j (kindNo es j) (partNo suffix) (nameFor es l) (part-small suffix) (d .1) (name-of es w j suffix l h d (k .begins) n) .1 ∙ rw e refl
 
   says-met : (need : Need) (l : Label) → allKnown need ≡ true → Says (bySort need (sortBy (nameFor es l))) (Meets es need l)
   says-met [] l k = says-never

@@ -2,51 +2,51 @@
 -- part behind it that its place allows, and so it is spelled as a label. Assumes nothing.
 use mathlib.Core.Path.{_≡_, refl, ap, _∙_}
 use mathlib.Core.Logic.{_⊎_, inl, inr}
-use mathlib.Core.Bool.{Bool, true, false, _||_}
-use mathlib.Core.List.{List, [], _∷_, _++_, append-nil, List·Memᴰ, List·Memᴰ·head, List·Memᴰ·tail}
+use mathlib.Core.Bool.{Bool, true, false, _&&_, _||_}
+use mathlib.Core.List.{List, [], _++_, append-nil, List·Memᴰ, List·Memᴰ·head, List·Memᴰ·tail}
 use Prim.Native.Nat.{ℕ, zero, suc, _<_}
-use native.Mathlib.Decide.{decLt}
 use native.Mathlib.Omega.{arith}
 use lib.ListN.{length, getD}
-use Rattle.ground.proofs.Lists.{all, and-first, and-second}
+use Rattle.ground.proofs.Lists.{all}
 use Rattle.ground.proofs.UpTo.{length-up-to, getD-up-to}
 use Rattle.refusal.specs.First.{EachBelow, allBelow, passed, first}
-use Rattle.refusal.proofs.Says.{says-so, says-all, stable}
+use Rattle.refusal.proofs.Says.{says-so, says-and, says-all}
 use Rattle.refusal.proofs.Right.{passed-iff}
 use Rattle.text.specs.Text.{isAlphanum}
 use Rattle.record.specs.declared.Record.{Record}
-use Rattle.kinds.specs.Kinds.{kinds, kindAt, newArc, lastRule, Declaration, Rule, Guess, labelPlaces}
+use Rattle.kinds.specs.Kinds.{kinds, kindAt, Known, Declaration, Rule, Guess, labelPlaces}
 use Rattle.record.specs.Decode.{decode, countOf, recordOf}
 use Rattle.record.specs.Entry.{Label, Entry, entryAt, labelNo, named, entryOf}
 use Rattle.record.specs.Sound.{Plain, Spelled}
 use Rattle.record.specs.Laid.{LaidOut}
 use Rattle.record.specs.Formed.{WellFormed}
-use Rattle.kinds.proofs.Table.{few-labels, declared-label, guess-label}
+use Rattle.kinds.proofs.Table.{few-labels, declared-label, one-of-three}
 use Rattle.record.proofs.Laid.{laid-formed}
 use Rattle.names.specs.Labels.{drawn, kindNo, nameNo, same}
 use Rattle.names.specs.Cut.{Pointless, partNo, KnownPart}
 use Rattle.names.proofs.Laws.{says-same}
 use Rattle.names.proofs.Cut.{plain-pointless, suffixNo, suffix-of}
 use Rattle.names.proofs.Drawn.{decode-here, drawn-at, drawn-kind, drawn-length}
-use Rattle.drawing.specs.Needs.{Choice, Need, codeAt, needAt}
+use Rattle.drawing.specs.Needs.{Choice, Need, needAt}
 use Rattle.drawing.specs.Faults as faults
 use faults.{Meets, Fault, Holds, wrong-label, no-such-part, behind30}
 use Rattle.drawing.specs.Check.{test}
-use Rattle.drawing.proofs.Agree.{agree, says-meets}
-use Rattle.drawing.proofs.Numbers.{declares, knownTest, says-known, allKnown, known-needs}
+use Rattle.drawing.proofs.Agree.{agree}
+use Rattle.drawing.proofs.Choices.{choice, met-at}
+use Rattle.drawing.proofs.Numbers.{declares, knownTest, says-known}
 
 -- ---- the suffixes that a kind's places need
 
--- nothing stands behind the labels of a need, or a point may
-abbrev allPlain : Bool → Need → Bool
-allPlain dotted = all (λ (c : Choice). dotted || same (c .suffix) [])
+-- a known part stands behind the label of a choice, and none where no point may
+abbrev plainTest : Bool → Choice → Bool
+plainTest dotted c = knownTest (c .suffix) && (dotted || same (c .suffix) [])
 
 -- so it is for each place of each kind: one computed test of the table
-plain-needs : (k q : ℕ) → k < length kinds → q < labelPlaces → allPlain (kindAt k .dotted) (needAt k q) ≡ true
+plain-needs : (k q : ℕ) → k < length kinds → q < labelPlaces → all (plainTest (kindAt k .dotted)) (needAt k q) ≡ true
 plain-needs k q h g = says-all _ _ (λ j. says-all (plainAt j) (λ p. plainAt j p ≡ true) (λ p. says-so) labelPlaces) (length kinds) .so refl k h q g
   where
     plainAt : ℕ → ℕ → Bool
-    plainAt j p = allPlain (kindAt j .dotted) (needAt j p)
+    plainAt j p = all (plainTest (kindAt j .dotted)) (needAt j p)
 
 -- ---- a label that is met
 
@@ -68,11 +68,11 @@ spelled-so true a suffix pa k e = rw (suffix-of suffix (k .one)) (part-spelled a
 spelled-so false a suffix pa k e = rw (says-same suffix [] .so e, append-nil) pa
 
 -- where declared labels are plain
-met-spelled : (es : List Entry) (dotted : Bool) → EachBelow (length es) (λ j. Declaration (kindNo es j) → Plain (nameNo es j)) → (need : Need) (l : Label) → allKnown need ≡ true → allPlain dotted need ≡ true → Meets es need l → Spelled dotted l
-met-spelled es dotted plain [] l k a m = absurd m
-met-spelled es dotted plain (c ∷ cs) l k a (inl (j, h, (d, e))) =
-    rw (← e) (spelled-so dotted (nameNo es j) (c .suffix) (plain j h (rw d (declares (c .shape)))) (says-known (c .suffix) .so (and-first _ (allKnown cs) k)) (and-first _ (allPlain dotted cs) a))
-met-spelled es dotted plain (c ∷ cs) l k a (inr m) = met-spelled es dotted plain cs l (and-second (knownTest (c .suffix)) _ k) (and-second (dotted || same (c .suffix) []) _ a) m
+met-spelled : (es : List Entry) (dotted : Bool) → EachBelow (length es) (λ j. Declaration (kindNo es j) → Plain (nameNo es j)) → (need : Need) (l : Label) → all (plainTest dotted) need ≡ true → Meets es need l → Spelled dotted l
+met-spelled es dotted plain need l a m =
+    let (c, p, (j, h, (d, e))) = choice es l (plainTest dotted) need a m in
+    let (known, bare) = says-and (says-known (c .suffix)) says-so .so p in
+    rw (← e) (spelled-so dotted (nameNo es j) (c .suffix) (plain j h (rw d (declares (c .shape)))) known bare)
 
 -- ---- a drawing that is laid out
 
@@ -105,26 +105,16 @@ module _ (text bs : List ℕ) (laid : LaidOut text bs) where
     never : (f : Fault) → List·Memᴰ f behind30 → (i : ℕ) → i < length es → Holds es f i → ⊥
     never = passed-iff (test es) (Holds es) (agree es) (length es) behind30 .0 none
 
-    -- each label is met, but a declaration's
-    met-at : (i q : ℕ) → i < length es → Rule (kindNo es i) ⊎ Guess (kindNo es i) → q < kindAt (kindNo es i) .labels → Meets es (needAt (kindNo es i) q) (labelNo (entryAt es i) q)
-    met-at i q h (inl r) g = stable (says-meets es (needAt (kindNo es i) q) (labelNo (entryAt es i) q)) (λ n. never wrong-label (List·Memᴰ·tail (List·Memᴰ·head refl)) i h (r, (q, g, n)))
-    met-at i zero h (inr r) g = stable (says-meets es (needAt (kindNo es i) 0) (nameNo es i)) (λ n. never no-such-part (List·Memᴰ·tail (List·Memᴰ·tail (List·Memᴰ·head refl))) i h (r, n))
-    met-at i (suc q) h (inr r) g = absurd (omega (arith, g, guess-label (kindNo es i) r))
-
-    -- and so it is spelled as a label
-    spelled-at : (i q : ℕ) → i < length es → (0 < kindNo es i) × (kindNo es i < length kinds) → q < kindAt (kindNo es i) .labels → Spelled (kindAt (kindNo es i) .dotted) (labelNo (entryAt es i) q)
-    spelled-at i q h k g =
-        elim (decLt newArc (kindNo es i)) [
-          | yes b ↦ met-spelled es (kindAt (kindNo es i) .dotted) declared-plain (needAt (kindNo es i) q) (labelNo (entryAt es i) q) (known-needs (codeAt (kindNo es i) q)) (plain-needs (kindNo es i) q (k .1) (omega (arith, g, few-labels (kindNo es i)))) (met-at i q h (rule-or-guess b) g)
-          | no f ↦ declared-spelled (kindNo es i) q (omega (arith, k .0), omega (arith, f)) g (declared-plain i h (omega (arith, k .0), omega (arith, f)))
-        ]
+    -- each label is spelled as a label: a declaration's is plain, and any other is met
+    spelled-at : (i q : ℕ) → i < length es → Known (kindNo es i) → q < kindAt (kindNo es i) .labels → Spelled (kindAt (kindNo es i) .dotted) (labelNo (entryAt es i) q)
+    spelled-at i q h k g = go (one-of-three (kindNo es i) k) q g
       where
-        rule-or-guess : newArc < kindNo es i → Rule (kindNo es i) ⊎ Guess (kindNo es i)
-        rule-or-guess b = elim (decLt lastRule (kindNo es i)) [ yes d ↦ inr (omega (arith, d), omega (arith, k .1)) | no d ↦ inl (omega (arith, b), omega (arith, d)) ]
-
-        declared-spelled : (k q : ℕ) → Declaration k → q < kindAt k .labels → Plain (nameNo es i) → Spelled (kindAt k .dotted) (labelNo (entryAt es i) q)
-        declared-spelled k zero d g p = rw (declared-label k d .1) p
-        declared-spelled k (suc q) d g p = absurd (omega (arith, g, declared-label k d .0))
+        go : Declaration (kindNo es i) ⊎ (Rule (kindNo es i) ⊎ Guess (kindNo es i)) → (q : ℕ) → q < kindAt (kindNo es i) .labels → Spelled (kindAt (kindNo es i) .dotted) (labelNo (entryAt es i) q)
+        go (inl d) zero g = rw (declared-label (kindNo es i) d .1) (declared-plain i h d)
+        go (inl d) (suc q) g = absurd (omega (arith, g, declared-label (kindNo es i) d .0))
+        go (inr u) q g =
+            met-spelled es (kindAt (kindNo es i) .dotted) declared-plain (needAt (kindNo es i) q) (labelNo (entryAt es i) q) (plain-needs (kindNo es i) q (k .1) (omega (arith, g, few-labels (kindNo es i))))
+            (met-at es i (never wrong-label (List·Memᴰ·tail (List·Memᴰ·head refl)) i h) (never no-such-part (List·Memᴰ·tail (List·Memᴰ·tail (List·Memᴰ·head refl))) i h) u q g)
 
     -- so the list is well formed
     pub then-formed : WellFormed text bs

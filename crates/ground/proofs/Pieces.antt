@@ -92,6 +92,11 @@ module _ {A B : Type 0} (f : A → B) where
   map-each Q [] a = tt
   map-each Q (x ∷ xs) a = (a .0, map-each Q xs (a .1))
 
+-- f of what h makes of each
+pub map-both : {A B C : Type 0} (f : B → C) (g : A → C) (h : A → B) (xs : List A) → Each (λ x. f (h x) ≡ g x) xs → map f (map h xs) ≡ map g xs
+map-both f g h [] a = refl
+map-both f g h (x ∷ xs) a = rw (a .0, map-both f g h xs (a .1)) refl
+
 -- ---- f of those that pass a test
 
 -- g picks them out of a list

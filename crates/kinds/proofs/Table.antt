@@ -1,5 +1,6 @@
 -- What holds of the kinds, row by row of the table: one computed test, and what is past the last row has no label. Assumes nothing.
 use mathlib.Core.Path.{_≡_, refl, ap}
+use mathlib.Core.Logic.{_⊎_, inl, inr}
 use mathlib.Core.Bool.{true, false, not}
 use Prim.Native.Nat.{ℕ, _≤_, _<_}
 use native.Mathlib.Omega.{arith}
@@ -8,7 +9,7 @@ use lib.Dec.{ltb}
 use lib.ListN.{length, List·getD-eq-default}
 use borrow.Author.Tests.{not-true}
 use Rattle.refusal.proofs.Says.{Says, says-so, says-and, says-if, says-iff, says-le, says-lt, says-all}
-use Rattle.kinds.specs.Kinds.{Kind, Declaration, Guess, newArc, pairGuess, kinds, noKind, kindAt, labelPlaces, Known}
+use Rattle.kinds.specs.Kinds.{Kind, Declaration, Rule, Guess, newArc, lastRule, pairGuess, kinds, noKind, kindAt, labelPlaces, Known}
 
 -- ---- a row
 
@@ -58,3 +59,11 @@ module _ (k : ℕ) where
 
   pub guess-label : Guess k → kindAt k .labels ≡ 1
   guess-label g = omega (arith, guess-labels (g .0), some-label (omega (arith, g .0), omega (arith, g .1)))
+
+  -- a kind is a declaration's, a rule's or a guess's
+  pub one-of-three : Known k → Declaration k ⊎ (Rule k ⊎ Guess k)
+  one-of-three h =
+      elim (decLt newArc k) [
+        | yes b ↦ inr (elim (decLt lastRule k) [ yes c ↦ inr (omega (arith, c), omega (arith, h .1)) | no f ↦ inl (omega (arith, b), omega (arith, f)) ])
+        | no f ↦ inl (omega (arith, h .0), omega (arith, f))
+      ]

@@ -16,8 +16,8 @@ use Rattle.lowering.specs.Slots.{slots, howMany, firstSlot, valuesOf}
 use Rattle.row.specs.Row.{encodeRows}
 use Rattle.lowering.specs.Rows.{rowsOf}
 use Rattle.lowering.specs.Lower.{onto, roomIn}
-use Rattle.lowering.specs.Demand.{rulesBefore, CannotGoWrong, PassedLowersWell}
-use Rattle.lowering.proofs.answer.Ends.{short}
+use Rattle.lowering.specs.Demand.{Enough, rulesBefore, CannotGoWrong, PassedLowersWell}
+use Rattle.lowering.proofs.answer.Ends.{filled, short}
 use Rattle.lowering.proofs.answer.Lacking.{lower-good}
 use Rattle.lowering.proofs.drawing.Counts.{rules-all, slot-count, passed-with, slot-number, rule-number}
 use Rattle.lowering.proofs.drawing.Fine.{Fine, fine}
@@ -59,11 +59,12 @@ lowers-well text bs P C A R next ids values rows checked enough r ids′ values�
     let p = passed-with es P C A R checked in
     let n : length (slots es) ≡ 2 * P + 3 * C + 6 * A = slot-number p ∙ omega arith in
     let m = rule-number p in
-    let good = lower-good es (roomIn next ids values rows) (rw (n, m) enough) (p .none-found) in
+    let enough-slots : Enough es (roomIn next ids values rows) = rw (n, m) enough in
+    let f = filled es next ids values rows enough-slots (p .none-found) r ids′ values′ rows′ call in
     let left : next + length (slots es) ≤ idsEnd = rw n (enough .ids-left) in
     record {
-      without-refusal = call .answer ∙ good ∙ rw (n, m, p .points, p .circles, p .arcs) refl;
+      without-refusal = call .answer ∙ lower-good es (roomIn next ids values rows) enough-slots (p .none-found) ∙ rw (n, m, p .points, p .circles, p .arcs) refl;
       cannot-go-wrong =
-          rw (rw good at (call .ids-are), rw good at (call .values-are), rw good at (call .rows-are), p .points, p .circles, p .arcs, p .rules)
+          rw (f .slotted .ids-are, f .slotted .values-are, f .rows-are, p .points, p .circles, p .arcs, p .rules)
           (cannot-go-wrong es (fine es (p .none-found)) (omega (arith, short text bs refl checked)) next left ids values rows);
     }

@@ -4,6 +4,7 @@ pub mod ids
 pub mod rows
 pub mod answer
 pub mod Sketched
+pub mod Alike
 pub mod Refusals
 pub mod Demand
 pub mod Examples

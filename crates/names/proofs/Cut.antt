@@ -51,6 +51,15 @@ pub stem-stem : (l : Label) → Pointless (stem l)
 stem-stem [] = refl
 stem-stem (b ∷ l) = stem-step b l (eqb b dot) refl (stem-stem l)
 
+-- and what stands from it on has nothing before it
+behind-step : (b : ℕ) (l : Label) (t : Bool) → eqb b dot ≡ t → stem (behind l) ≡ [] → stem (cond t (b ∷ l) (behind l)) ≡ []
+behind-step b l true e h = rw e
+behind-step b l false e h = h
+
+pub stem-behind : (l : Label) → stem (behind l) ≡ []
+stem-behind [] = refl
+stem-behind (b ∷ l) = behind-step b l (eqb b dot) refl (stem-behind l)
+
 -- a label that begins with no point
 no-dot : (b : ℕ) (l : Label) (t : Bool) → cond t [] (b ∷ stem l) ≡ b ∷ l → t ≡ false
 no-dot b l true e = absurd (omega (arith, ap length e))

@@ -2,7 +2,7 @@
 -- shape, and which part it is. Assumes nothing.
 use mathlib.Core.Path.{_≡_, refl, sym, ap, _∙_}
 use mathlib.Core.Bool.{Bool, true, _&&_}
-use mathlib.Core.List.{List, _++_}
+use mathlib.Core.List.{List, [], _++_}
 use Prim.Native.Nat.{ℕ, _+_, _*_, _≤_, _<_}
 use native.Mathlib.Omega.{arith}
 use lib.ListN.{length}
@@ -13,7 +13,7 @@ use Rattle.kinds.specs.Kinds.{newPoint, newArc, pairGuess, numberGuess, Declara
 use Rattle.record.specs.Record.{mostRecords}
 use Rattle.record.specs.Entry.{Label, Entry}
 use Rattle.names.specs.Labels.{kindNo, nameNo, within, labelled, lowestOr}
-use Rattle.names.specs.Cut.{stem, behind, Pointless, knownParts, partNo, KnownPart}
+use Rattle.names.specs.Cut.{stem, behind, knownParts, partNo, KnownPart}
 use Rattle.names.specs.Names.{declarer, packed, nameFor, recordBy, sortBy, partBy, tellsPart, placeBy, guessesPart, guessIn, Clear}
 use Rattle.names.proofs.Laws.{says-same, says-within}
 use Rattle.names.proofs.First.{lowest-here, lowest-at, lowest-same}
@@ -84,16 +84,16 @@ module _ (es : List Entry) (w : Clear es) where
       sym (lowest-here (length es) (labelled es newPoint newArc (nameNo es j)) j h (says-labelled es newPoint newArc (nameNo es j) j .back (d, refl))
       (λ i b. refuted (says-labelled es newPoint newArc (nameNo es j) i) (λ t. w .once j i b h d (t .0) (t .1))))
 
-  -- the label of a declared shape with a known part behind it has that record's number, its kind and the part
-  pub name-of : (j : ℕ) (suffix l : Label) → j < length es → Declaration (kindNo es j) → KnownPart suffix → nameNo es j ++ suffix ≡ l
-      → nameFor es l ≡ packed es j (partNo suffix)
-  unfolding nameFor
-  name-of j suffix l h d k e =
-      let p : Pointless (nameNo es j) = w .pointless j h d in
-      let s : stem l ≡ nameNo es j = stem-of (nameNo es j) suffix l p (k .begins) e in
-      let r : behind l ≡ suffix = behind-of (nameNo es j) suffix l p (k .begins) e in
-      let f : declarer es (stem l) ≡ j = ap (declarer es) s ∙ found-at j h d in
-      rw (f, lt-ltb j (length es) h, r)
+  -- a declared label with something from a point on behind it, or nothing
+  module _ (j : ℕ) (suffix l : Label) (h : j < length es) (d : Declaration (kindNo es j)) (begins : stem suffix ≡ []) (e : nameNo es j ++ suffix ≡ l) where
+    -- is found at that record too,
+    pub declarer-of : declarer es (stem l) ≡ j
+    declarer-of = ap (declarer es) (stem-of (nameNo es j) suffix l (w .pointless j h d) begins e) ∙ found-at j h d
+
+    -- and its name is the record's number, its kind and the part
+    pub name-of : nameFor es l ≡ packed es j (partNo suffix)
+    unfolding nameFor
+    name-of = rw (declarer-of, lt-ltb j (length es) h, behind-of (nameNo es j) suffix l (w .pointless j h d) begins e)
 
 -- ---- a name that tells a known part
 
@@ -136,6 +136,6 @@ module _ (es : List Entry) where
   pub guess-at : (w : Clear es) (j : ℕ) (suffix : Label) → j < length es → Declaration (kindNo es j) → KnownPart suffix
       → guessIn es (j * knownParts + partNo suffix) ≡ lowestOr (length es) (labelled es pairGuess numberGuess (nameNo es j ++ suffix))
   guess-at w j suffix h d k =
-      let n = name-of es w j suffix (nameNo es j ++ suffix) h d k refl in
+      let n = name-of es w j suffix (nameNo es j ++ suffix) h d (k .begins) refl in
       let (at, sort, part) = unpacked j (kindNo es j) (partNo suffix) (nameFor es (nameNo es j ++ suffix)) (part-small suffix) (d .1) n in
       rw (at, part) at (guess-named (nameNo es j ++ suffix) (says-tells (nameFor es (nameNo es j ++ suffix)) .back (omega (arith, n, d .0), rw part (k .one))))

@@ -37,7 +37,7 @@ use Rattle.lowering.specs.Slots.{slots, layoutOf}
 use Rattle.row.specs.Row.{rowBytes}
 use Rattle.lowering.specs.Rows.{rulesOf}
 use Rattle.lowering.specs.Lower.{Room, few-ids, short-slices, short-rows, lackOrder, lackNumber, lacking, lackOf, lowerOf, roomIn, Lowers}
-use Rattle.lowering.specs.Demand.{EnoughFor}
+use Rattle.lowering.specs.Demand.{EnoughFor, Enough}
 use Rattle.lowering.specs.Steps.{Passing, Filled, lackTold}
 use Rattle.lowering.proofs.drawing.Counts.{few-of, PassedWith, passed-with, slot-number, rule-number}
 use Rattle.lowering.proofs.answer.Lacking.{lower-good, lower-refused}
@@ -60,6 +60,14 @@ module _ (es : List Entry) (next : ℕ) (ids : List ℕ) (values : List Float) (
       go (refused f j) e q =
           let same : refusal (numberOf f) j ≡ r = cc in
           rw (← same) (kept-all (refusal (numberOf f) j) (lower-refused es (roomIn next ids values rows) f j e))
+
+  -- ---- the check passes, with enough room
+
+  pub filled : Enough es (roomIn next ids values rows) → checkOf es ≡ passed → (r : Lowered) (ids′ : List ℕ) (values′ : List Float) (rows′ : List ℕ)
+      → Lowers es next ids values rows r ids′ values′ rows′ → Filled es next ids values rows (layoutOf es) ids′ values′ rows′
+  filled enough passes r ids′ values′ rows′ call =
+      let good = lower-good es (roomIn next ids values rows) enough passes in
+      record { slotted = record { layout-is = refl; ids-are = rw good at (call .ids-are); values-are = rw good at (call .values-are) }; rows-are = rw good at (call .rows-are) }
 
 -- ---- what is lacking
 

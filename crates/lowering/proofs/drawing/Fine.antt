@@ -1,8 +1,8 @@
 -- What a drawing that the check passes is like: each fault that holds nowhere is a fact of it. Assumes nothing.
 use mathlib.Core.Path.{_≡_, refl, sym, ap, _∙_}
-use mathlib.Core.Logic.{inl, inr}
+use mathlib.Core.Logic.{_⊎_, inl, inr}
 use mathlib.Core.Bool.{false}
-use mathlib.Core.List.{List, [], _∷_, _++_}
+use mathlib.Core.List.{List, [], _∷_, _++_, append-nil}
 use Prim.Native.Nat.{ℕ, zero, suc, _<_}
 use native.Mathlib.Omega.{arith}
 use lib.ListN.{length}
@@ -14,26 +14,27 @@ use Rattle.record.specs.Sound.{Sound}
 use Rattle.record.specs.Formed.{unsound}
 use Rattle.record.proofs.Agree.{says-sound}
 use Rattle.names.specs.Labels.{kindNo, nameNo}
-use Rattle.names.specs.Cut.{Pointless, partNo, KnownPart}
-use Rattle.names.specs.Names.{nameFor, recordBy, kindBy, Clear}
+use Rattle.names.specs.Cut.{stem, Pointless, partNo, KnownPart}
+use Rattle.names.specs.Names.{declarer, nameFor, recordBy, kindBy, Clear}
 use Rattle.names.proofs.Cut.{plain-pointless, part-small}
-use Rattle.names.proofs.Names.{unpacked, name-of}
-use Rattle.drawing.specs.Needs.{Shape, point, circle, arc, declaring, Part, parts, needAt}
+use Rattle.names.proofs.Names.{unpacked, declarer-of, name-of}
+use Rattle.drawing.specs.Needs.{Shape, point, circle, arc, declaring, Part, parts, Choice, codeAt, needAt}
 use Rattle.drawing.specs.Faults as faults
-use faults.{Meets, Guessed, AnyUnguessed, malformed, declared-twice, wrong-label, guessed-twice, without-guess}
+use faults.{Meets, Guessed, AnyUnguessed, malformed, declared-twice, wrong-label, no-such-part, guessed-twice, without-guess}
 use Rattle.drawing.specs.Check.{checkOf}
-use Rattle.drawing.proofs.Agree.{says-meets, says-guessed, check-passes}
-use Rattle.kinds.proofs.Table.{declared-label}
-use Rattle.drawing.proofs.Numbers.{declares}
+use Rattle.drawing.proofs.Agree.{says-guessed, check-passes}
+use Rattle.drawing.proofs.Choices.{choice, met-at}
+use Rattle.kinds.proofs.Table.{declared-label, one-of-three}
+use Rattle.drawing.proofs.Numbers.{declares, knownTest, says-known, known-needs}
 use Rattle.lowering.specs.Demand.{Declares}
 use Rattle.lowering.specs.Sketch.{byKind}
 use Rattle.ground.proofs.Pieces.{Each}
 
--- records are sound; a label is declared once, and a part guessed once; each rule's labels are what they need to be; each part is guessed
+-- records are sound; a label is declared once, and a part guessed once; each label of a rule or a guess is what its place needs; each part is guessed
 pub record Fine (es : List Entry) : Type 0 where
   pub sound : EachBelow (length es) (λ i. Sound (entryAt es i))
   pub once : (i j : ℕ) → i < length es → j < length es → Declaration (kindNo es i) → Declaration (kindNo es j) → nameNo es i ≡ nameNo es j → i ≡ j
-  pub met : EachBelow (length es) (λ i. Rule (kindNo es i) → EachBelow (kindAt (kindNo es i) .labels) (λ q. Meets es (needAt (kindNo es i) q) (labelNo (entryAt es i) q)))
+  pub met : EachBelow (length es) (λ i. Rule (kindNo es i) ⊎ Guess (kindNo es i) → EachBelow (kindAt (kindNo es i) .labels) (λ q. Meets es (needAt (kindNo es i) q) (labelNo (entryAt es i) q)))
   pub guess-once : (i j : ℕ) → i < length es → j < length es → Guess (kindNo es i) → Guess (kindNo es j) → nameNo es i ≡ nameNo es j → i ≡ j
   pub guessed-all : (i : ℕ) (s : Shape) → Declares es i s → Each (Guessed es (nameNo es i)) (parts s)
 
@@ -55,7 +56,7 @@ fine es e =
     record {
       sound = λ i h. stable (says-sound (entryAt es i)) (λ n. none-holds malformed i (omega (arith, h)) (unsound h n));
       once = one-only es Declaration (λ i h. none-holds declared-twice i (omega (arith, h)));
-      met = λ i h r q g. stable (says-meets es (needAt (kindNo es i) q) (labelNo (entryAt es i) q)) (λ n. none-holds wrong-label i (omega (arith, h)) (r, (q, g, n)));
+      met = λ i h. met-at es i (none-holds wrong-label i (omega (arith, h))) (none-holds no-such-part i (omega (arith, h)));
       guess-once = one-only es Guess (λ i h. none-holds guessed-twice i (omega (arith, h)));
       guessed-all = λ i s d. each-guessed es (nameNo es i) (parts s) (λ u. none-holds without-guess i (omega (arith, d .inside)) (s, d .kind-is, u));
     }
@@ -109,5 +110,26 @@ pub name-told : (es : List Entry) → Fine es → (j : ℕ) (s : Shape) → Decl
     → (recordBy (nameFor es l) ≡ j) × (kindBy (nameFor es l) ≡ declaring s)
 name-told es w j s d suffix l k e =
     let decl = declaration s (kindNo es j) (d .kind-is) in
-    let (at, sort, part) = unpacked j (kindNo es j) (partNo suffix) (nameFor es l) (part-small suffix) (decl .1) (name-of es (clear es w) j suffix l (d .inside) decl k e) in
+    let (at, sort, part) = unpacked j (kindNo es j) (partNo suffix) (nameFor es l) (part-small suffix) (decl .1) (name-of es (clear es w) j suffix l (d .inside) decl (k .begins) e) in
     (at, omega (arith, sort, d .kind-is, part-small suffix))
+
+-- ---- each label of it is declared, up to its first point
+
+module _ (es : List Entry) (w : Fine es) where
+  -- one that its place needs
+  met-declared : (kind q : ℕ) (l : Label) → Meets es (needAt kind q) l → declarer es (stem l) < length es
+  met-declared kind q l m =
+      let (c, known, (j, h, (is, name))) = choice es l (λ (c : Choice). knownTest (c .suffix)) (needAt kind q) (known-needs (codeAt kind q)) m in
+      rw (declarer-of es (clear es w) j (c .suffix) l h (declaration (c .shape) (kindNo es j) is) (says-known (c .suffix) .so known .begins) name) h
+
+  -- and a declared one itself
+  own-declared : (i : ℕ) → i < length es → Declaration (kindNo es i) → declarer es (stem (nameNo es i)) < length es
+  own-declared i h d = rw (declarer-of es (clear es w) i [] (nameNo es i) h d refl (append-nil (nameNo es i))) h
+
+  pub label-declared : (i : ℕ) → i < length es → (q : ℕ) → q < length (entryAt es i .labels) → declarer es (stem (labelNo (entryAt es i) q)) < length es
+  label-declared i h q g = go (one-of-three (kindNo es i) (w .sound i h .known)) q (rw (w .sound i h .count) at g)
+    where
+      go : Declaration (kindNo es i) ⊎ (Rule (kindNo es i) ⊎ Guess (kindNo es i)) → (q : ℕ) → q < kindAt (kindNo es i) .labels → declarer es (stem (labelNo (entryAt es i) q)) < length es
+      go (inr u) q b = met-declared (kindNo es i) q (labelNo (entryAt es i) q) (w .met i h u q b)
+      go (inl d) zero b = own-declared i h d
+      go (inl d) (suc q) b = absurd (omega (arith, b, declared-label (kindNo es i) d .0))

@@ -3,7 +3,7 @@
 use mathlib.Core.Path.{_≡_, refl, sym, _∙_}
 use mathlib.Core.Logic.{inl, inr}
 use mathlib.Core.Bool.{Bool, true, not, _&&_}
-use mathlib.Core.List.{List, [], _∷_, _++_, append-nil}
+use mathlib.Core.List.{List, [], _++_, append-nil}
 use Prim.Native.Nat.{ℕ, _+_, _-_, _≤_, _<_}
 use native.Mathlib.Decide.{decLt}
 use native.Mathlib.Nat.{le-refl, zero-add}
@@ -12,7 +12,7 @@ use lib.Dec.{eqb}
 use lib.ListN.{List·getD-eq-default, length, getD}
 use Rattle.ground.specs.Words.{bytes}
 use Rattle.ground.specs.Lists.{flat, sumTo}
-use Rattle.ground.proofs.Lists.{all, and-first, and-second}
+use Rattle.ground.proofs.Lists.{all}
 use Rattle.ground.proofs.Pieces.{Each, each-at, each-of, each-has, each-flat, sum-flat}
 use Rattle.refusal.specs.First.{EachBelow, SomeBelow}
 use Rattle.refusal.proofs.Says.{Says, refuted, says-so, says-and, says-not, says-eq, says-le, says-lt, says-if, says-unless, says-all}
@@ -25,8 +25,9 @@ use Rattle.names.specs.Labels.{kindNo, nameNo, same}
 use Rattle.names.specs.Cut.{KnownPart}
 use Rattle.names.specs.Names.{nameFor}
 use Rattle.names.proofs.Laws.{says-same}
-use Rattle.drawing.specs.Needs.{Shape, point, Choice, Need, codeAt, needAt}
-use Rattle.drawing.specs.Faults.{Named, Meets}
+use Rattle.drawing.specs.Needs.{Shape, point, Choice, codeAt, needAt}
+use Rattle.drawing.specs.Faults.{Named}
+use Rattle.drawing.proofs.Choices.{choice}
 use Rattle.row.specs.Row.{mostIds}
 use Rattle.row.specs.Formed.{idsFor, idsAt, idsOf}
 use Rattle.lowering.specs.declared.spans.Span.{Span}
@@ -61,12 +62,6 @@ rule-fits k u =
     (λ k. says-unless (says-lt _ _)
     (says-and (says-all _ _ (λ q. says-and says-so (says-if says-so (says-eq _ _))) (kindAt k .labels)) (says-and (says-eq _ _) (says-le _ _))))
     24 .so refl k (omega (arith, u .1)) (λ l. omega (arith, u .0, l))
-
--- one of the labels that a place takes is met
-choice : (es : List Entry) (l : Label) (p : Choice → Bool) (n : Need) → all p n ≡ true → Meets es n l → (c : Choice) × (p c ≡ true) × Named es (c .shape) (c .suffix) l
-choice es l p [] a m = absurd m
-choice es l p (c ∷ cs) a (inl m) = (c, and-first (p c) (all p cs) a, m)
-choice es l p (c ∷ cs) a (inr m) = choice es l p cs (and-second (p c) (all p cs) a) m
 
 -- ---- a label of a rule, worked out
 
@@ -155,7 +150,7 @@ module _ (es : List Entry) (w : Fine es) (i : ℕ) (h : i < length es) (u : Rule
       let s = w .sound i h in
       let g : q < kindAt (e .kind) .labels = rw (s .count) at b in
       let (takes-each, due) = rule-fits (e .kind) u .0 q g in
-      let (c, t, m) = choice es (labelNo e q) (takes (namingOf (e .kind)) (codeAt (e .kind) q)) (needAt (e .kind) q) takes-each (w .met i h u q g) in
+      let (c, t, m) = choice es (labelNo e q) (takes (namingOf (e .kind)) (codeAt (e .kind) q)) (needAt (e .kind) q) takes-each (w .met i h (inl u) q g) in
       by-naming es w e q (namingOf (e .kind)) refl c t (λ one. xy (e .third) (omega (arith, due one, s .third .0)) (s .third .1 (omega (arith, due one)))) m
 
   module _ (next : ℕ) where
