@@ -32,6 +32,7 @@ OF_EACH_OUTCOME = 40
 SMALL_BETWEEN_LARGE = 40
 DRAWINGS = 300
 RENAMED = 60
+LEAST_WITH_AN_ARC = 20
 LEAST_PASSING = 100
 LEAST_OF_A_FAULT = 16
 LEAST_OF_A_ROW = 10
@@ -134,6 +135,14 @@ def check_drawings(blocks):
     print("rows: " + ", ".join("%d of %d" % (count, n) for n, count in sorted(rows.items())))
 
 
+def check_pairs(pairs):
+    """Stops where the renamed drawings lack something."""
+    arcs = sum(b" arcs 0 " not in rows for _, _, rows in pairs)
+    kinds = {int(line.split(b" ")[1]) for _, _, rows in pairs for line in rows.splitlines() if line.startswith(b"row ")}
+    assert len(pairs) == RENAMED and arcs >= LEAST_WITH_AN_ARC and kinds == set(range(4, 24)), (arcs, kinds)
+    print("%d pairs by other names, %d with an arc" % (len(pairs), arcs))
+
+
 def main():
     if len(sys.argv) not in (2, 3):
         sys.exit(__doc__.rstrip())
@@ -144,9 +153,11 @@ def main():
     answers = [due(whole, text, block) for (whole, text), block in zip(texts, told)]
     batch = b"".join(pages.entry(whole, text) for whole, text in texts)
     check(texts, answers, batch)
-    renamed = [text for pair in itertools.islice(renaming.good(renaming.made()), RENAMED) for text in pair[:2]]
-    blocks = drawings.blocks(drawings.by_hand() + drawings.limits() + list(drawings.drawings(DRAWINGS)) + renamed)
+    blocks = drawings.blocks(drawings.by_hand() + drawings.limits() + list(drawings.drawings(DRAWINGS)))
     check_drawings(blocks)
+    pairs = list(itertools.islice(renaming.good(renaming.made()), RENAMED))
+    check_pairs(pairs)
+    blocks += drawings.blocks([text for first, second, _ in pairs for text in (first, second)])
     batch += b"".join(block for block, _ in blocks)
     answers += [answer for _, answer in blocks]
     for name, contents in [("stdin", batch), ("stdout", b"".join(answer + b".\n" for answer in answers))]:

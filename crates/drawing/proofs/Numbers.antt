@@ -47,7 +47,7 @@ pub says-known : (t : Label) → Says (knownTest t) (KnownPart t)
 says-known t = says-iff (λ w. record { begins = w .0; one = w .1 }) (λ k. (k .begins, k .one)) (says-and (says-same (stem t) []) (says-lt (partNo t) knownParts))
 
 -- those of a need
-abbrev pub allKnown : Need → Bool
+abbrev allKnown : Need → Bool
 allKnown = all (λ (c : Choice). knownTest (c .suffix))
 
 -- a sort that a place needs tells a known part

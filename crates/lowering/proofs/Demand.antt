@@ -17,7 +17,7 @@ use Rattle.row.specs.Row.{encodeRows}
 use Rattle.lowering.specs.Rows.{rowsOf}
 use Rattle.lowering.specs.Lower.{onto, roomIn}
 use Rattle.lowering.specs.Demand.{Enough, rulesBefore, CannotGoWrong, PassedLowersWell}
-use Rattle.lowering.proofs.answer.Ends.{filled, short}
+use Rattle.lowering.proofs.answer.Ends.{well-filled, short}
 use Rattle.lowering.proofs.answer.Lacking.{lower-good}
 use Rattle.lowering.proofs.drawing.Counts.{rules-all, slot-count, passed-with, slot-number, rule-number}
 use Rattle.lowering.proofs.drawing.Fine.{Fine, fine}
@@ -60,7 +60,7 @@ lowers-well text bs P C A R next ids values rows checked enough r ids′ values�
     let n : length (slots es) ≡ 2 * P + 3 * C + 6 * A = slot-number p ∙ omega arith in
     let m = rule-number p in
     let enough-slots : Enough es (roomIn next ids values rows) = rw (n, m) enough in
-    let f = filled es next ids values rows enough-slots (p .none-found) r ids′ values′ rows′ call in
+    let f = well-filled es next ids values rows enough-slots (p .none-found) r ids′ values′ rows′ call in
     let left : next + length (slots es) ≤ idsEnd = rw n (enough .ids-left) in
     record {
       without-refusal = call .answer ∙ lower-good es (roomIn next ids values rows) enough-slots (p .none-found) ∙ rw (n, m, p .points, p .circles, p .arcs) refl;

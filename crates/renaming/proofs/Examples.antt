@@ -211,6 +211,13 @@ partChanged = bracketWith (bytes "v") (bytes "c") (bytes "foot7") (bytes "0") (b
 abbrev noLabel : List Entry
 noLabel = bracket "v" "c" "foot 7" "0"
 
+-- they are drawings of a text and record bytes, too
+pub drawn-so : (entries (textOf labelsFree) (recordsOf labelsFree) ≡ labelsFree)
+    × (entries (textOf partChanged) (recordsOf partChanged) ≡ partChanged)
+    × (entries (textOf noLabel) (recordsOf noLabel) ≡ noLabel)
+unfolding entries entry framedTest entryOf decode encode encodeAll
+drawn-so = (refl, refl, refl)
+
 pub otherwise : (checkedOf labelsFree ≡ checked.Passed 2 1 1 6)
     × (ids labelsFree ≡ idsDue 102)
     × (checkedOf partChanged ≡ checked.Passed 2 1 1 6)

@@ -67,8 +67,8 @@ passes : (checkedOf (drawn "p" "c") ≡ checked.Passed 1 1 0 2) × (checkedOf (d
 unfolding checkedOf checkOf first lowest countBelow malformedTest soundTest spelledTest labelOn suffixedOn byteOn labelAt runTo wordAt labelled twice namedAt someNamed guessAt guessed wrongPlace wrongLabelTest noSuchPartTest withoutGuessTest
 passes = (refl, refl)
 
-pub printed : loweringOf page ≡ loweringOf exchanged
-printed =
+pub exchanged-alike : loweringOf page ≡ loweringOf exchanged
+exchanged-alike =
     printed-alike page exchanged
     (record { instructions = 4; guesses = 3; end = 125; reads = read .0; passes = (1, 1, 0, 2, rw (read .1) (passes .0)) })
     (record { instructions = 4; guesses = 3; end = 125; reads = read .2; passes = (1, 1, 0, 2, rw (read .3) (passes .1)) })

@@ -15,7 +15,7 @@ use Rattle.lowering.specs.Rows.{rulesOf}
 use Rattle.lowering.specs.Lower.{roomIn}
 use Rattle.lowering.specs.Sketch.{sketch}
 use Rattle.lowering.proofs.answer.Lacking.{lower-good}
-use Rattle.lowering.proofs.answer.Ends.{filled}
+use Rattle.lowering.proofs.answer.Ends.{well-filled}
 use Rattle.lowering.proofs.drawing.Counts.{passed-with}
 use Rattle.lowering.proofs.drawing.Fine.{fine}
 use Rattle.lowering.proofs.slots.Values.{length-values}
@@ -24,11 +24,11 @@ use Rattle.lowering.proofs.Alike.{layout-same, slots-same, values-same, rows-sa
 use Rattle.renaming.specs.Renaming.{Passes, Renamed, Call, SameLowering, NamesDoNotMatter, NeverTwoToOne, NoCallTells}
 use Rattle.renaming.proofs.Records.{same-lines, one-to-one}
 
-pub none-found : (es : List Entry) → Passes es → checkOf es ≡ passed
-none-found es (P, C, A, R, e) = passed-with es P C A R e .none-found
+pub none-told : (es : List Entry) → Passes es → checkOf es ≡ passed
+none-told es (P, C, A, R, e) = passed-with es P C A R e .none-found
 
-pub lines-same : (es es′ : List Entry) → Passes es → Passes es′ → (becomes : Label → Label) → Renamed becomes es es′ → sketch es ≡ sketch es′
-lines-same es es′ p p′ becomes r = sym (same-lines r (fine es (none-found es p)) (fine es′ (none-found es′ p′)))
+pub same-sketch : (es es′ : List Entry) → Passes es → Passes es′ → (becomes : Label → Label) → Renamed becomes es es′ → sketch es ≡ sketch es′
+same-sketch es es′ p p′ becomes r = sym (same-lines r (fine es (none-told es p)) (fine es′ (none-told es′ p′)))
 
 -- ---- two calls
 
@@ -40,8 +40,8 @@ module _ {text records text′ records′ : List ℕ} (c : checkOf (entries text
       let es′ = entries text′ records′ in
       let n = length (slots es) in
       let many = slots-same es es′ c c′ same in
-      let one = filled es next (a .ids) (a .values) (a .rows) (a .enough) c (a .answer) (a .ids-after) (a .values-after) (a .rows-after) (a .promised) in
-      let other = filled es′ next (b .ids) (b .values) (b .rows) (b .enough) c′ (b .answer) (b .ids-after) (b .values-after) (b .rows-after) (b .promised) in
+      let one = well-filled es next (a .ids) (a .values) (a .rows) (a .enough) c (a .answer) (a .ids-after) (a .values-after) (a .rows-after) (a .promised) in
+      let other = well-filled es′ next (b .ids) (b .values) (b .rows) (b .enough) c′ (b .answer) (b .ids-after) (b .values-after) (b .rows-after) (b .promised) in
       record {
         answer =
             a .promised .answer
@@ -59,16 +59,16 @@ pub names-do-not-matter : NamesDoNotMatter
 names-do-not-matter text records text′ records′ p p′ becomes apart r next a b =
     let es = entries text records in
     let es′ = entries text′ records′ in
-    same-lowering (none-found es p) (none-found es′ p′) (lines-same es es′ p p′ becomes r) a b
+    same-lowering (none-told es p) (none-told es′ p′) (same-sketch es es′ p p′ becomes r) a b
 
 pub never-two-to-one : NeverTwoToOne
-never-two-to-one es es′ p p′ becomes r = one-to-one r (fine es (none-found es p)) (fine es′ (none-found es′ p′))
+never-two-to-one es es′ p p′ becomes r = one-to-one r (fine es (none-told es p)) (fine es′ (none-told es′ p′))
 
 pub no-call-tells : NoCallTells
 no-call-tells text records text′ records′ p p′ becomes r next ids values rows answer ids′ values′ rows′ =
     let es = entries text records in
     let es′ = entries text′ records′ in
-    let same = lines-same es es′ p p′ becomes r in (
-      alike es es′ (none-found es p) (none-found es′ p′) same next ids values rows answer ids′ values′ rows′,
-      alike es′ es (none-found es′ p′) (none-found es p) (sym same) next ids values rows answer ids′ values′ rows′,
+    let same = same-sketch es es′ p p′ becomes r in (
+      alike es es′ (none-told es p) (none-told es′ p′) same next ids values rows answer ids′ values′ rows′,
+      alike es′ es (none-told es′ p′) (none-told es p) (sym same) next ids values rows answer ids′ values′ rows′,
     )

@@ -15,7 +15,7 @@ use Rattle.rail.specs.Words.{joined}
 use Rattle.lines.specs.Drawn.{loweredLine, slotLine, rowLine}
 use Rattle.answers.specs.Answers.{drawingLines, loweringOf}
 use Rattle.renaming.specs.Pages.{PrintedAlike}
-use Rattle.renaming.proofs.Names.{none-found, lines-same}
+use Rattle.renaming.proofs.Names.{none-told, same-sketch}
 
 same-print : (es es′ : List Entry) → checkOf es ≡ passed → checkOf es′ ≡ passed → sketch es ≡ sketch es′ → drawingLines passed es ≡ drawingLines passed es′
 same-print es es′ c c′ same j =
@@ -29,6 +29,6 @@ unfolding loweringOf
 printed-alike text text′ g g′ becomes r =
     let es = linesOf text in
     let es′ = linesOf text′ in
-    let c = none-found es (g .passes) in
-    let c′ = none-found es′ (g′ .passes) in
-    rw (g .reads, g′ .reads, c, c′) (same-print es es′ c c′ (lines-same es es′ (g .passes) (g′ .passes) becomes r))
+    let c = none-told es (g .passes) in
+    let c′ = none-told es′ (g′ .passes) in
+    rw (g .reads, g′ .reads, c, c′) (same-print es es′ c c′ (same-sketch es es′ (g .passes) (g′ .passes) becomes r))

@@ -11,7 +11,7 @@ use Rattle.answers.specs.Answers.{loweringOf}
 use Rattle.renaming.specs.Renaming.{Passes, Renamed}
 
 -- the whole page reads, and its drawing passes the check
-pub record GoodPage (text : List ℕ) : Type 0 where
+pub record PassingPage (text : List ℕ) : Type 0 where
   pub instructions : ℕ
   pub guesses : ℕ
   pub end : ℕ
@@ -21,6 +21,6 @@ pub record GoodPage (text : List ℕ) : Type 0 where
 -- what `rows` prints of both is the same, byte for byte
 abbrev pub PrintedAlike : Type 0
 PrintedAlike =
-    (text text′ : List ℕ) → GoodPage text → GoodPage text′
+    (text text′ : List ℕ) → PassingPage text → PassingPage text′
     → (becomes : Label → Label) → Renamed becomes (linesOf text) (linesOf text′)
     → loweringOf text ≡ loweringOf text′

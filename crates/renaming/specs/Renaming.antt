@@ -73,7 +73,8 @@ pub record Call (text records : List ℕ) (next : ℕ) : Type 0 where
 
 -- ---- the same rows, ids and starting values, byte for byte
 
--- the answer, an id and a value for each of so many slots, and the bytes of so many rows, whatever the lent things held before and hold behind them
+-- the answer, an id and a value for each of so many slots, and the bytes of so many rows, whatever the lent things held before and hold behind them.
+-- Values are f64s, of which a NaN is one
 pub record SameLowering (slot-count row-count : ℕ) {text records text′ records′ : List ℕ} {next : ℕ} (a : Call text records next) (b : Call text′ records′ next) : Type 0 where
   pub answer : a .answer ≡ b .answer
   pub ids : take slot-count (a .ids-after) ≡ take slot-count (b .ids-after)

@@ -63,9 +63,9 @@ module _ (es : List Entry) (next : ℕ) (ids : List ℕ) (values : List Float) (
 
   -- ---- the check passes, with enough room
 
-  pub filled : Enough es (roomIn next ids values rows) → checkOf es ≡ passed → (r : Lowered) (ids′ : List ℕ) (values′ : List Float) (rows′ : List ℕ)
+  pub well-filled : Enough es (roomIn next ids values rows) → checkOf es ≡ passed → (r : Lowered) (ids′ : List ℕ) (values′ : List Float) (rows′ : List ℕ)
       → Lowers es next ids values rows r ids′ values′ rows′ → Filled es next ids values rows (layoutOf es) ids′ values′ rows′
-  filled enough passes r ids′ values′ rows′ call =
+  well-filled enough passes r ids′ values′ rows′ call =
       let good = lower-good es (roomIn next ids values rows) enough passes in
       record { slotted = record { layout-is = refl; ids-are = rw good at (call .ids-are); values-are = rw good at (call .values-are) }; rows-are = rw good at (call .rows-are) }
 
