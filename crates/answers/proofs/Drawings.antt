@@ -6,7 +6,6 @@ use native.Mathlib.Nat.{zero-add}
 use native.Mathlib.Omega.{arith}
 use lib.ListN.{length, getD, take, replicate, length-map, length-take, length-replicate}
 use lib.Ieee.{Float, nan, binary64, ofBits}
-use lib.Seq.{take-at}
 use Rattle.ground.specs.Lists.{upTo}
 use Rattle.refusal.specs.First.{Answer, passed, refused, answered}
 use Rattle.layout.specs.declared.Layout.{Layout}
@@ -35,6 +34,7 @@ use Rattle.lowering.proofs.rows.Bytes.{count-rows}
 use Rattle.lowering.proofs.rows.Formed.{rows-fit, rows-formed}
 use Rattle.lowering.proofs.drawing.Fine.{fine}
 use Rattle.lowering.proofs.answer.Lacking.{lower-good, lower-refused}
+use Rattle.lowering.proofs.answer.Ends.{Fronts, fronts}
 use Rattle.ground.proofs.Pieces.{Each, each-at, getD-map}
 use Rattle.lowering.proofs.slots.Values.{length-values}
 use Rattle.lines.specs.Drawn.{loweredLine, slotLine, rowLine}
@@ -144,14 +144,17 @@ module _ {s bs : List ℕ} (read : Read s bs) {told : Lowered} {ids : List ℕ} 
     written-length = omega (arith, rows-length (rowsOf (linesOf s) 0), count-rows (linesOf s) 0, count-is)
 
     -- what was written
+    taken : Fronts (linesOf s) 0 ids values rows
+    taken = fronts (linesOf s) 0 ids₀ values₀ rows₀ suffices passes told ids values rows on-lines
+
     ids-taken : take next ids ≡ onward 0 (length (slots (linesOf s)))
-    ids-taken = rw (on-lines .ids-are, good-is, next-is) (take-at (onward 0 (length (slots (linesOf s)))) _ _ (length-onward 0 (length (slots (linesOf s)))))
+    ids-taken = rw next-is (taken .ids-first)
 
     values-taken : take next values ≡ valuesOf (linesOf s)
-    values-taken = rw (on-lines .values-are, good-is, next-is) (take-at (valuesOf (linesOf s)) _ _ (length-values (linesOf s)))
+    values-taken = rw next-is (taken .values-first)
 
     rows-taken : take (count * rowBytes) rows ≡ encodeRows (rowsOf (linesOf s) 0)
-    rows-taken = rw (on-lines .rows-are, good-is) (take-at (encodeRows (rowsOf (linesOf s) 0)) _ _ written-length)
+    rows-taken = rw count-is (taken .rows-first)
 
     -- the rows are well formed
     pub well-formed : RowsFormed (take (count * rowBytes) rows)

@@ -48,8 +48,8 @@ module _ (text b : List ℕ) where
       pub no-label : decode b .count ≤ q → NamesLabel text b q noView
       no-label h = rw (says-good text b .back g, le-ltb q (decode b .count) h) at label-view
 
-      pub some-label : q < decode b .count → NamesLabel text b q (viewOf (decode b) q)
-      some-label h = rw (says-good text b .back g, lt-ltb q (decode b .count) h) at label-view
+      pub label-named : q < decode b .count → NamesLabel text b q (viewOf (decode b) q)
+      label-named h = rw (says-good text b .back g, lt-ltb q (decode b .count) h) at label-view
 
   -- ---- angles
 

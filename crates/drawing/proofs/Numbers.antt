@@ -10,7 +10,7 @@ use lib.ListN.{length, getD}
 use Rattle.ground.proofs.Lists.{and-first, and-second, all, all-at}
 use Rattle.refusal.specs.First.{EachBelow, allBelow, first}
 use Rattle.refusal.proofs.Says.{Says, fails, stable, says-and, says-or, says-not, says-if, says-never, says-iff, says-eq, says-le, says-lt, says-once, says-so, says-any, says-all}
-use Rattle.refusal.proofs.Alike.{any-alike, none-alike, first-alike}
+use Rattle.refusal.proofs.Alike.{and-alike, any-alike, none-alike, first-alike}
 use Rattle.kinds.specs.Kinds.{kinds, kindAt, Declaration, Guess, newPoint, newArc, firstRule, lastRule, pairGuess, numberGuess}
 use Rattle.record.specs.Record.{mostRecords}
 use Rattle.record.specs.Entry.{Label, Entry, entryAt, labelNo}
@@ -29,7 +29,6 @@ use faults.{Named, Meets, declared-twice, wrong-label, no-such-part, guessed-twi
 use Rattle.drawing.specs.Check as check
 use check.{twice, wrongPlace, wrongLabelTest, noSuchPartTest, guessAt, guessed, anyUnguessed, lacks, withoutGuessTest, test}
 use Rattle.drawing.specs.Numbers.{sortOf, bySort, ownNumbers, nameBy, declaredBefore, wrongName, anyWrongName, noPartNamed, guessedBefore, anyLacking, lacksBy, partLacking, testBy}
-use Rattle.drawing.proofs.Laws.{and-alike}
 use Rattle.drawing.proofs.Agree.{says-meets, agree}
 
 -- ---- what a place needs, by the sort
@@ -43,8 +42,8 @@ declares arc = (omega arith, omega arith)
 abbrev pub knownTest : Label → Bool
 knownTest t = same (stem t) [] && ltb (partNo t) knownParts
 
-pub says-known : (t : Label) → Says (knownTest t) (KnownPart t)
-says-known t = says-iff (λ w. record { begins = w .0; one = w .1 }) (λ k. (k .begins, k .one)) (says-and (says-same (stem t) []) (says-lt (partNo t) knownParts))
+pub says-known-part : (t : Label) → Says (knownTest t) (KnownPart t)
+says-known-part t = says-iff (λ w. record { begins = w .0; one = w .1 }) (λ k. (k .begins, k .one)) (says-and (says-same (stem t) []) (says-lt (partNo t) knownParts))
 
 -- those of a need
 abbrev allKnown : Need → Bool
@@ -77,7 +76,7 @@ module _ (es : List Entry) (w : Clear es) where
   says-met : (need : Need) (l : Label) → allKnown need ≡ true → Says (bySort need (sortBy (nameFor es l))) (Meets es need l)
   says-met [] l k = says-never
   says-met (c ∷ cs) l k =
-      says-or (says-named (c .shape) (c .suffix) l (says-known (c .suffix) .so (and-first _ (allKnown cs) k))) (says-met cs l (and-second (knownTest (c .suffix)) _ k))
+      says-or (says-named (c .shape) (c .suffix) l (says-known-part (c .suffix) .so (and-first _ (allKnown cs) k))) (says-met cs l (and-second (knownTest (c .suffix)) _ k))
 
 -- ---- the parts of a shape
 
@@ -93,7 +92,7 @@ partTest s p =
 
 says-part : (s : Shape) (p : Part) → Says (partTest s p) (PartOf s p)
 says-part s p =
-    says-and (says-known (p .suffix))
+    says-and (says-known-part (p .suffix))
     (says-and (says-within pairGuess numberGuess (p .guess)) (says-all _ _ (λ k. says-if (says-and (says-within pairGuess numberGuess k) says-so) (says-eq k (p .guess))) (length kinds)))
 
 parts-of : (s : Shape) → all (partTest s) (parts s) ≡ true

@@ -33,7 +33,7 @@ use faults.{Meets, Fault, Holds, wrong-label, no-such-part, behind30}
 use Rattle.drawing.specs.Check.{test}
 use Rattle.drawing.proofs.Agree.{agree}
 use Rattle.drawing.proofs.Choices.{choice, met-at}
-use Rattle.drawing.proofs.Numbers.{declares, knownTest, says-known}
+use Rattle.drawing.proofs.Numbers.{declares, knownTest, says-known-part}
 
 -- ---- the suffixes that a kind's places need
 
@@ -71,7 +71,7 @@ spelled-so false a suffix pa k e = rw (says-same suffix [] .so e, append-nil) pa
 met-spelled : (es : List Entry) (dotted : Bool) → EachBelow (length es) (λ j. Declaration (kindNo es j) → Plain (nameNo es j)) → (need : Need) (l : Label) → all (plainTest dotted) need ≡ true → Meets es need l → Spelled dotted l
 met-spelled es dotted plain need l a m =
     let (c, p, (j, h, (d, e))) = choice es l (plainTest dotted) need a m in
-    let (known, bare) = says-and (says-known (c .suffix)) says-so .so p in
+    let (known, bare) = says-and (says-known-part (c .suffix)) says-so .so p in
     rw (← e) (spelled-so dotted (nameNo es j) (c .suffix) (plain j h (rw d (declares (c .shape)))) known bare)
 
 -- ---- a drawing that is laid out

@@ -10,6 +10,7 @@ use lib.ListN.{length, getD, length-map, List·getD-map}
 use Rattle.ground.specs.Lists.{flat}
 use Rattle.ground.proofs.Pieces.{Each, each-of, getD-map}
 use Rattle.refusal.specs.First.{passed}
+use Rattle.refusal.proofs.Alike.{and-alike}
 use Rattle.layout.specs.Slots.{slotCount}
 use Rattle.kinds.specs.Kinds.{Rule, Guess, firstRule, lastRule, pairGuess, numberGuess}
 use Rattle.record.specs.Entry.{Entry, noEntry, entryAt}
@@ -21,7 +22,6 @@ use Rattle.names.proofs.Laws.{says-within}
 use Rattle.names.proofs.First.{lowest-same}
 use Rattle.row.specs.Row.{Row}
 use Rattle.drawing.specs.Check.{checkOf}
-use Rattle.drawing.proofs.Laws.{and-alike}
 use Rattle.lowering.specs.Slots.{layoutOf}
 use Rattle.lowering.specs.Rows.{rowFor, rulesOf, rowsOf}
 use Rattle.lowering.specs.Sketch.{lineFor, sketch, lineAt, kindIn, layoutIn, firstIn, firstBy, rowBy, rowIf, rowsBy, guessesBy, numbersBy, valuesIn, Sketched}

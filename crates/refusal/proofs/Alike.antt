@@ -1,6 +1,6 @@
 -- Two tests of one order: where each fault is tested alike as long as no earlier one holds, the same is told. Assumes nothing.
 use mathlib.Core.Path.{_≡_, refl, ap, _∙_}
-use mathlib.Core.Bool.{Bool, true, false}
+use mathlib.Core.Bool.{Bool, true, false, _&&_}
 use mathlib.Core.Option.{Option, none, some}
 use mathlib.Core.List.{List, [], _∷_}
 use Prim.Native.Nat.{ℕ, zero, suc}
@@ -8,6 +8,11 @@ use native.Mathlib.Omega.{arith}
 use Rattle.refusal.specs.First.{EachBelow, anyBelow, lowest, tell, first}
 use Rattle.refusal.proofs.Says.{refuted, says-so}
 use Rattle.refusal.proofs.Search.{Searched, nowhere, searched}
+
+-- what is asked only behind a test
+pub and-alike : (a b c : Bool) → (a ≡ true → b ≡ c) → (a && b) ≡ (a && c)
+and-alike true b c f = f refl
+and-alike false b c f = refl
 
 module _ (p q : ℕ → Bool) where
   pub lowest-alike : (n : ℕ) → EachBelow n (λ j. p j ≡ q j) → lowest n p ≡ lowest n q

@@ -1,13 +1,13 @@
--- The search for the lowest place: it answers a place exactly if that is the lowest in words. Assumes nothing.
+-- The search for the lowest place: it answers a place exactly if that is the lowest in words; and the search for any. Assumes nothing.
 use mathlib.Core.Path.{_≡_, refl, sym, ap, _∙_, subst}
 use mathlib.Core.Logic.{⊎-elim, _↔_}
-use mathlib.Core.Bool.{Bool, true, false, cond, true≢false}
+use mathlib.Core.Bool.{Bool, true, false, _&&_, cond, true≢false}
 use mathlib.Core.Option.{Option, none, some}
 use Prim.Native.Nat.{ℕ, zero, suc, _<_}
 use native.Mathlib.Nat.{le-refl, not-suc-le-zero}
 use native.Mathlib.Omega.{arith}
-use Rattle.refusal.specs.First.{lowest, orElse, SomeBelow, EachBelow, Lowest, Nowhere}
-use Rattle.refusal.proofs.Says.{Says, fails, says-so, below-suc}
+use Rattle.refusal.specs.First.{anyBelow, lowest, orElse, SomeBelow, EachBelow, Lowest, Nowhere}
+use Rattle.refusal.proofs.Says.{Says, fails, refuted, says-so, says-any, below-suc}
 
 or-none : (o : Option ℕ) → orElse o none ≡ o
 or-none (some i) = refl
@@ -80,3 +80,14 @@ module _ (p : ℕ → Bool) (n : ℕ) where
 
   pub goes-through : EachBelow n (λ j. p j ≡ false) → lowest n p ≡ none
   goes-through f = none-iff p (λ j. p j ≡ true) (λ j. says-so) n .1 (λ j k g. true≢false (sym g ∙ f j k))
+
+  pub any-here : (i : ℕ) → i < n → p i ≡ true → true ≡ anyBelow n p
+  any-here i h e = sym (says-any p (λ j. p j ≡ true) (λ j. says-so) n .back (i, h, e))
+
+  pub any-none : EachBelow n (λ j. p j ≡ false) → false ≡ anyBelow n p
+  any-none f = sym (refuted (says-any p (λ j. p j ≡ true) (λ j. says-so) n) (λ w. true≢false (sym (w .2) ∙ f (w .0) (w .1))))
+
+-- one that is made only where a test passes
+pub any-if : (t : Bool) (n : ℕ) (p : ℕ → Bool) → anyBelow (cond t n 0) p ≡ t && anyBelow n p
+any-if true n p = refl
+any-if false n p = refl

@@ -1,13 +1,13 @@
 -- A bracket by the names of two branches: two names are exchanged and two are new. Both drawings pass, the one is the other renamed, and both are lowered
--- to the same, as the claim says and as the definitions compute. And what the claim leaves no room for: with labels left free, with a part changed, or
--- with a name that is no label it is otherwise. Assumes nothing.
-use mathlib.Core.Path.{_≡_, refl}
+-- to the same, as the claim says and as the definitions compute; with labels left free, with a part changed, or with a name that is no label it is
+-- otherwise. Assumes nothing.
+use mathlib.Core.Path.{_≡_, refl, ap}
 use mathlib.Core.Bool.{cond}
 use mathlib.Core.List.{List, [], _∷_, _++_, map}
 use Prim.Native.Nat.{ℕ, _+_}
 use Prim.Native.String.{String}
 use native.Mathlib.Omega.{arith}
-use lib.ListN.{length, replicate, length-map}
+use lib.ListN.{length, getD, replicate, length-map}
 use lib.Ieee.{Float, nan}
 use Rattle.ground.specs.Words.{bytes}
 use Rattle.ground.specs.Lists.{flat}
@@ -24,6 +24,7 @@ use Rattle.record.specs.Entry.{Label, Entry, noEntry, entryOf}
 use Rattle.record.specs.Sound.{spelledTest, framedTest, soundTest}
 use Rattle.record.specs.Formed.{entry, entries, malformedTest}
 use Rattle.names.specs.Labels.{same, labelled, lowestOr}
+use Rattle.drawing.specs.declared.Checked.{Checked}
 use Rattle.drawing.specs.declared.Checked.the-variants as checked
 use Rattle.drawing.specs.Check as check
 use check.{twice, namedAt, someNamed, guessAt, guessed, wrongPlace, wrongLabelTest, noSuchPartTest, withoutGuessTest, checkOf, countBelow, checkedOf}
@@ -81,6 +82,20 @@ abbrev becomes : Label → Label
 becomes l =
     cond (same l (bytes "c")) (bytes "v") (cond (same l (bytes "v")) (bytes "c") (cond (same l (bytes "p")) (bytes "foot7") (cond (same l (bytes "q")) (bytes "0") l)))
 
+-- and three that are not ours renamed: a rule names the tip in the place of the foot; the guesses of the corner's ends are exchanged; the foot's name
+-- is no label
+abbrev labelsFree : List Entry
+labelsFree = bracketWith (bytes "v") (bytes "c") (bytes "foot7") (bytes "0") (bytes "0") (bytes ".a") (bytes ".b")
+
+abbrev partChanged : List Entry
+partChanged = bracketWith (bytes "v") (bytes "c") (bytes "foot7") (bytes "0") (bytes "foot7") (bytes ".b") (bytes ".a")
+
+abbrev noLabel : List Entry
+noLabel = bracket "v" "c" "foot 7" "0"
+
+abbrev drawings : List (List Entry)
+drawings = ours ∷ theirs ∷ labelsFree ∷ partChanged ∷ noLabel ∷ []
+
 -- ---- as a text and record bytes: all labels one after another, and each record's views of its own
 
 abbrev joined : List Label → List ℕ
@@ -102,22 +117,41 @@ textOf = flat (λ (e : Entry). joined (e .labels))
 abbrev recordsOf : List Entry → List ℕ
 recordsOf es = encodeAll (recordsFrom 0 es)
 
+abbrev readBack : List Entry → List Entry
+readBack es = entries (textOf es) (recordsOf es)
+
 -- they are read back
-read : (entries (textOf ours) (recordsOf ours) ≡ ours) × (entries (textOf theirs) (recordsOf theirs) ≡ theirs)
+pub read-back : map readBack drawings ≡ drawings
 unfolding entries entry framedTest entryOf decode encode encodeAll
-read = (refl, refl)
+read-back = refl
 
--- ---- both pass the check
+-- ---- what the check tells of them
 
-passes : (checkedOf ours ≡ checked.Passed 2 1 1 6) × (checkedOf theirs ≡ checked.Passed 2 1 1 6)
+abbrev verdicts : List Checked
+verdicts =
+    checked.Passed 2 1 1 6
+    ∷ checked.Passed 2 1 1 6
+    ∷ checked.Passed 2 1 1 6
+    ∷ checked.Passed 2 1 1 6
+    ∷ checked.Refused (refusal 30 2)
+    ∷ []
+
+pub told : map checkedOf drawings ≡ verdicts
 unfolding checkedOf checkOf first lowest countBelow malformedTest soundTest spelledTest labelOn suffixedOn byteOn labelAt runTo wordAt labelled twice namedAt someNamed guessAt guessed wrongPlace wrongLabelTest noSuchPartTest withoutGuessTest
-passes = (refl, refl)
+told = refl
 
-pub ours-pass : Passes (entries (textOf ours) (recordsOf ours))
-ours-pass = (2, 1, 1, 6, rw (read .0) (passes .0))
+-- each by its place
+back-at : (i : ℕ) → getD (map readBack drawings) i [] ≡ getD drawings i []
+back-at i = ap (λ (ds : List (List Entry)). getD ds i []) read-back
 
-pub theirs-pass : Passes (entries (textOf theirs) (recordsOf theirs))
-theirs-pass = (2, 1, 1, 6, rw (read .1) (passes .1))
+told-at : (i : ℕ) → getD (map checkedOf drawings) i (checked.Passed 0 0 0 0) ≡ getD verdicts i (checked.Passed 0 0 0 0)
+told-at i = ap (λ (cs : List Checked). getD cs i (checked.Passed 0 0 0 0)) told
+
+pub ours-pass : Passes (readBack ours)
+ours-pass = (2, 1, 1, 6, rw (back-at 0) (told-at 0))
+
+pub theirs-pass : Passes (readBack theirs)
+theirs-pass = (2, 1, 1, 6, rw (back-at 1) (told-at 1))
 
 -- ---- they differ by names alone
 
@@ -130,8 +164,8 @@ relabelled f es = record {
   each = λ i h. rw (getD-map (relabel f) es i noEntry noEntry h) (record { kind-same = refl; third-same = refl; x-same = refl; y-same = refl; labels-become = refl });
 }
 
-pub other-names : Renamed becomes (entries (textOf ours) (recordsOf ours)) (entries (textOf theirs) (recordsOf theirs))
-other-names = rw (read .0, read .1) (relabelled becomes ours)
+pub other-names : Renamed becomes (readBack ours) (readBack theirs)
+other-names = rw (back-at 0, back-at 1) (relabelled becomes ours)
 
 -- ---- both are lowered to the same
 
@@ -160,68 +194,44 @@ pub our-call : Call (textOf ours) (recordsOf ours) 100
 unfolding slots
 our-call =
     call (textOf ours) (recordsOf ours) 100 (replicate 13 0) (replicate 13 nan) (replicate 264 0)
-    (rw (read .0) (record { ids-left = omega arith; ids-lent = omega arith; values-lent = omega arith; rows-lent = omega arith }))
+    (rw (back-at 0) (record { ids-left = omega arith; ids-lent = omega arith; values-lent = omega arith; rows-lent = omega arith }))
 
 pub their-call : Call (textOf theirs) (recordsOf theirs) 100
 unfolding slots
 their-call =
     call (textOf theirs) (recordsOf theirs) 100 (replicate 13 7) (replicate 14 nan) (replicate 300 255)
-    (rw (read .1) (record { ids-left = omega arith; ids-lent = omega arith; values-lent = omega arith; rows-lent = omega arith }))
+    (rw (back-at 1) (record { ids-left = omega arith; ids-lent = omega arith; values-lent = omega arith; rows-lent = omega arith }))
 
-pub lowered-alike : SameLowering (length (slots (entries (textOf ours) (recordsOf ours)))) (length (rulesOf (entries (textOf ours) (recordsOf ours)))) our-call their-call
+pub lowered-alike : SameLowering (length (slots (readBack ours))) (length (rulesOf (readBack ours))) our-call their-call
 lowered-alike =
     names-do-not-matter (textOf ours) (recordsOf ours) (textOf theirs) (recordsOf theirs) ours-pass theirs-pass becomes (never-two-to-one _ _ ours-pass theirs-pass becomes other-names) other-names 100 our-call their-call
 
--- and so it is computed: the ids of each row, and of each slot the number of its guess
+-- ---- and so it is computed
+
+-- the ids of each row, and of each slot the number of its guess
 abbrev ids : List Entry → List (List ℕ)
 ids es = map (λ (r : Row). r .ids) (rowsOf es 100)
 
 abbrev numbers : List Entry → List ℕ
 numbers es = map (λ (s : Slot). numberFor (s .axis) (guessOf es (s .shape ++ s .suffix))) (slots es)
 
--- the foot has the ids 100 and 101, the tip 102 and 103, the vent 104 to 106, the corner 107 to 112
+-- the foot has the ids 100 and 101, the tip 102 and 103, the vent 104 to 106, the corner 107 to 112; the last rule names one of the first two
 abbrev idsDue : ℕ → List (List ℕ)
-idsDue from =
+idsDue named =
     (107 ∷ 108 ∷ 109 ∷ 110 ∷ 111 ∷ 112 ∷ [])
     ∷ (104 ∷ 105 ∷ 106 ∷ [])
     ∷ (100 ∷ [])
     ∷ (112 ∷ [])
     ∷ (104 ∷ [])
-    ∷ (from ∷ (from + 1) ∷ 107 ∷ 108 ∷ 109 ∷ 110 ∷ 111 ∷ 112 ∷ [])
+    ∷ (named ∷ (named + 1) ∷ 107 ∷ 108 ∷ 109 ∷ 110 ∷ 111 ∷ 112 ∷ [])
     ∷ []
 
-pub computed : (ids ours ≡ idsDue 100)
-    × (ids theirs ≡ idsDue 100)
-    × (numbers ours ≡ 0 ∷ 1 ∷ 2 ∷ 3 ∷ 4 ∷ 5 ∷ 6 ∷ 7 ∷ 8 ∷ 9 ∷ 10 ∷ 11 ∷ 12 ∷ [])
-    × (numbers theirs ≡ 0 ∷ 1 ∷ 2 ∷ 3 ∷ 4 ∷ 5 ∷ 6 ∷ 7 ∷ 8 ∷ 9 ∷ 10 ∷ 11 ∷ 12 ∷ [])
+-- a corner starts at its ends, which are guessed in this order or in the other
+abbrev numbersDue : List ℕ → List ℕ
+numbersDue ends = 0 ∷ 1 ∷ 2 ∷ 3 ∷ 4 ∷ 5 ∷ 6 ∷ (ends ++ 11 ∷ 12 ∷ [])
+
+-- theirs is lowered as ours is; with labels free it has another row, and with the part changed it starts elsewhere
+pub computed : (map ids (ours ∷ theirs ∷ labelsFree ∷ []) ≡ idsDue 100 ∷ idsDue 100 ∷ idsDue 102 ∷ [])
+    × (map numbers (ours ∷ theirs ∷ partChanged ∷ []) ≡ numbersDue (7 ∷ 8 ∷ 9 ∷ 10 ∷ []) ∷ numbersDue (7 ∷ 8 ∷ 9 ∷ 10 ∷ []) ∷ numbersDue (9 ∷ 10 ∷ 7 ∷ 8 ∷ []) ∷ [])
 unfolding slots namedIds rowsOf guessOf lowestOr lowest labelled
-computed = (refl, refl, refl, refl)
-
--- ---- what must not be left out
-
--- a rule of theirs names the tip in the place of the foot: it passes, and its row is another
-abbrev labelsFree : List Entry
-labelsFree = bracketWith (bytes "v") (bytes "c") (bytes "foot7") (bytes "0") (bytes "0") (bytes ".a") (bytes ".b")
-
--- the guesses of the corner's ends are exchanged: it passes, and starts elsewhere
-abbrev partChanged : List Entry
-partChanged = bracketWith (bytes "v") (bytes "c") (bytes "foot7") (bytes "0") (bytes "foot7") (bytes ".b") (bytes ".a")
-
--- the foot's name became what is no label: it does not pass
-abbrev noLabel : List Entry
-noLabel = bracket "v" "c" "foot 7" "0"
-
--- they are drawings of a text and record bytes, too
-pub drawn-so : (entries (textOf labelsFree) (recordsOf labelsFree) ≡ labelsFree)
-    × (entries (textOf partChanged) (recordsOf partChanged) ≡ partChanged)
-    × (entries (textOf noLabel) (recordsOf noLabel) ≡ noLabel)
-unfolding entries entry framedTest entryOf decode encode encodeAll
-drawn-so = (refl, refl, refl)
-
-pub otherwise : (checkedOf labelsFree ≡ checked.Passed 2 1 1 6)
-    × (ids labelsFree ≡ idsDue 102)
-    × (checkedOf partChanged ≡ checked.Passed 2 1 1 6)
-    × (numbers partChanged ≡ 0 ∷ 1 ∷ 2 ∷ 3 ∷ 4 ∷ 5 ∷ 6 ∷ 9 ∷ 10 ∷ 7 ∷ 8 ∷ 11 ∷ 12 ∷ [])
-    × (checkedOf noLabel ≡ checked.Refused (refusal 30 2))
-unfolding checkedOf checkOf first lowest countBelow malformedTest soundTest spelledTest labelOn suffixedOn byteOn labelAt runTo wordAt labelled twice namedAt someNamed guessAt guessed wrongPlace wrongLabelTest noSuchPartTest withoutGuessTest slots namedIds rowsOf guessOf lowestOr
-otherwise = (refl, refl, refl, refl, refl)
+computed = (refl, refl)

@@ -7,28 +7,22 @@ use Rattle.ground.specs.Lists.{upTo}
 use Rattle.refusal.specs.First.{passed}
 use Rattle.record.specs.Entry.{Entry}
 use Rattle.reader.specs.Page.{linesOf}
-use Rattle.drawing.specs.Check.{checkOf}
 use Rattle.lowering.specs.declared.Lowered.the-variants as L
-use Rattle.lowering.specs.Sketch.{sketch}
-use Rattle.lowering.proofs.Alike.{layout-same, slots-same, values-same, rows-same, rules-same}
+use Rattle.lowering.proofs.Alike.{Alike}
 use Rattle.rail.specs.Words.{joined}
 use Rattle.lines.specs.Drawn.{loweredLine, slotLine, rowLine}
 use Rattle.answers.specs.Answers.{drawingLines, loweringOf}
 use Rattle.renaming.specs.Pages.{PrintedAlike}
-use Rattle.renaming.proofs.Names.{none-told, same-sketch}
+use Rattle.renaming.proofs.Names.{alike-renamed}
 
-same-print : (es es′ : List Entry) → checkOf es ≡ passed → checkOf es′ ≡ passed → sketch es ≡ sketch es′ → drawingLines passed es ≡ drawingLines passed es′
-same-print es es′ c c′ same j =
-    let n = slots-same es es′ c c′ same j in
-    loweredLine (L.Good (layout-same es es′ c c′ same j) n (rules-same es es′ c c′ same j))
-    ++ joined (upTo n (λ k. slotLine k (getD (values-same es es′ c c′ same j) k nan)))
-    ++ joined (map rowLine (rows-same es es′ c c′ same 0 j))
+same-print : {es es′ : List Entry} → Alike es es′ → drawingLines passed es ≡ drawingLines passed es′
+same-print k j =
+    loweredLine (L.Good (k .layout j) (k .slot-count j) (k .rule-count j))
+    ++ joined (upTo (k .slot-count j) (λ i. slotLine i (getD (k .values j) i nan)))
+    ++ joined (map rowLine (k .rows 0 j))
 
 pub printed-alike : PrintedAlike
 unfolding loweringOf
 printed-alike text text′ g g′ becomes r =
-    let es = linesOf text in
-    let es′ = linesOf text′ in
-    let c = none-told es (g .passes) in
-    let c′ = none-told es′ (g′ .passes) in
-    rw (g .reads, g′ .reads, c, c′) (same-print es es′ c c′ (same-sketch es es′ (g .passes) (g′ .passes) becomes r))
+    let k = alike-renamed (linesOf text) (linesOf text′) (g .passes) (g′ .passes) becomes r in
+    rw (g .reads, g′ .reads, k .passes, k .passes′) (same-print k)

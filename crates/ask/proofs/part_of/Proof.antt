@@ -5,7 +5,7 @@ use native.Mathlib.Omega.{arith}
 use Rattle.record.specs.Decode.{decode}
 use Rattle.record.specs.Sound.{Good}
 use Rattle.record.proofs.Back.{decode-one}
-use Rattle.ask.proofs.Cases.{good-of-kind, bad-of-kind, no-record, no-label, some-label}
+use Rattle.ask.proofs.Cases.{good-of-kind, bad-of-kind, no-record, no-label, label-named}
 use Rattle.ask.proofs.part_of.Statement.{statement}
 use Rattle.ask.proofs.part_of.Tie as tie
 
@@ -24,7 +24,7 @@ returns-2 : tie.Need-returns-2
 returns-2 c = no-label _ _ _ (good (c .before .before)) (rw (read (c .before)) at (c .if2 .taken))
 
 returns-3 : tie.Need-returns-3
-returns-3 c = rw (read (c .before .before)) (some-label _ _ _ (good (c .before .before .before)) (rw (read (c .before .before)) at (c .before .if2 .left)))
+returns-3 c = rw (read (c .before .before)) (label-named _ _ _ (good (c .before .before .before)) (rw (read (c .before .before)) at (c .before .if2 .left)))
 
 pub part-of-spec : {M : Type 1} → statement M
 part-of-spec =

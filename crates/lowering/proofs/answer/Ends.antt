@@ -8,7 +8,8 @@ use Prim.Native.Nat.{ℕ, suc, _+_, _*_, _≤_, _<_}
 use native.Mathlib.Omega.{arith}
 use lib.Dec.{ltb}
 use borrow.Author.Tests.{ltb-false}
-use lib.ListN.{length}
+use lib.ListN.{length, take}
+use lib.Seq.{take-at}
 use lib.Ieee.{Float}
 use Rattle.refusal.specs.declared.Refusal.{Refusal}
 use Rattle.refusal.specs.Refusal.{refusal}
@@ -17,6 +18,8 @@ use Rattle.refusal.proofs.Says.{fails, says-lt, says-or}
 use Rattle.layout.specs.declared.Layout.{Layout}
 use Rattle.layout.specs.Slots.{idsEnd}
 use Rattle.layout.specs.Run.{slotsFor}
+use Rattle.layout.specs.Push.{onward}
+use Rattle.layout.proofs.Onward.{length-onward}
 use Rattle.record.specs.Record.{mostRecords}
 use Rattle.record.specs.Entry.{Entry}
 use Rattle.record.specs.Formed.{WellFormed, entries}
@@ -33,16 +36,24 @@ use Rattle.drawing.specs.Check.{answer, checkOf, checkedOf}
 use Rattle.drawing.proofs.Agree.{check-passes}
 use Rattle.lowering.specs.declared.Lowered.{Lowered}
 use Rattle.lowering.specs.declared.Lowered.the-variants as L
-use Rattle.lowering.specs.Slots.{slots, layoutOf}
-use Rattle.row.specs.Row.{rowBytes}
-use Rattle.lowering.specs.Rows.{rulesOf}
+use Rattle.lowering.specs.Slots.{slots, layoutOf, valuesOf}
+use Rattle.row.specs.Row.{rowBytes, encodeRows}
+use Rattle.lowering.specs.Rows.{rulesOf, rowsOf}
 use Rattle.lowering.specs.Lower.{Room, few-ids, short-slices, short-rows, lackOrder, lackNumber, lacking, lackOf, lowerOf, roomIn, Lowers}
 use Rattle.lowering.specs.Demand.{EnoughFor, Enough}
 use Rattle.lowering.specs.Steps.{Passing, Filled, lackTold}
 use Rattle.lowering.proofs.drawing.Counts.{few-of, PassedWith, passed-with, slot-number, rule-number}
+use Rattle.lowering.proofs.slots.Values.{length-values}
+use Rattle.lowering.proofs.rows.Bytes.{length-rows}
 use Rattle.lowering.proofs.answer.Lacking.{lower-good, lower-refused}
 
 -- ---- what is lent, by the answer
+
+-- the ids, the starting values and the rows of a drawing are the first of these
+pub record Fronts (es : List Entry) (next : ℕ) (ids : List ℕ) (values : List Float) (rows : List ℕ) : Type 0 where
+  pub ids-first : take (length (slots es)) ids ≡ onward next (length (slots es))
+  pub values-first : take (length (slots es)) values ≡ valuesOf es
+  pub rows-first : take (length (rulesOf es) * rowBytes) rows ≡ encodeRows (rowsOf es next)
 
 module _ (es : List Entry) (next : ℕ) (ids : List ℕ) (values : List Float) (rows : List ℕ) where
   -- on a refusal, what it was
@@ -68,6 +79,17 @@ module _ (es : List Entry) (next : ℕ) (ids : List ℕ) (values : List Float) (
   well-filled enough passes r ids′ values′ rows′ call =
       let good = lower-good es (roomIn next ids values rows) enough passes in
       record { slotted = record { layout-is = refl; ids-are = rw good at (call .ids-are); values-are = rw good at (call .values-are) }; rows-are = rw good at (call .rows-are) }
+
+  -- what is written stands at the front of what was lent
+  pub fronts : Enough es (roomIn next ids values rows) → checkOf es ≡ passed → (r : Lowered) (ids′ : List ℕ) (values′ : List Float) (rows′ : List ℕ)
+      → Lowers es next ids values rows r ids′ values′ rows′ → Fronts es next ids′ values′ rows′
+  fronts enough passes r ids′ values′ rows′ call =
+      let f = well-filled enough passes r ids′ values′ rows′ call in
+      record {
+        ids-first = rw (f .slotted .ids-are) (take-at (onward next (length (slots es))) _ _ (length-onward next (length (slots es))));
+        values-first = rw (f .slotted .values-are) (take-at (valuesOf es) _ _ (length-values es));
+        rows-first = rw (f .rows-are) (take-at (encodeRows (rowsOf es next)) _ _ (length-rows es next));
+      }
 
 -- ---- what is lacking
 

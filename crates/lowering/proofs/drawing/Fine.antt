@@ -25,7 +25,7 @@ use Rattle.drawing.specs.Check.{checkOf}
 use Rattle.drawing.proofs.Agree.{says-guessed, check-passes}
 use Rattle.drawing.proofs.Choices.{choice, met-at}
 use Rattle.kinds.proofs.Table.{declared-label, one-of-three}
-use Rattle.drawing.proofs.Numbers.{declares, knownTest, says-known, known-needs}
+use Rattle.drawing.proofs.Numbers.{declares, knownTest, says-known-part, known-needs}
 use Rattle.lowering.specs.Demand.{Declares}
 use Rattle.lowering.specs.Sketch.{byKind}
 use Rattle.ground.proofs.Pieces.{Each}
@@ -120,7 +120,7 @@ module _ (es : List Entry) (w : Fine es) where
   met-declared : (kind q : ℕ) (l : Label) → Meets es (needAt kind q) l → declarer es (stem l) < length es
   met-declared kind q l m =
       let (c, known, (j, h, (is, name))) = choice es l (λ (c : Choice). knownTest (c .suffix)) (needAt kind q) (known-needs (codeAt kind q)) m in
-      rw (declarer-of es (clear es w) j (c .suffix) l h (declaration (c .shape) (kindNo es j) is) (says-known (c .suffix) .so known .begins) name) h
+      rw (declarer-of es (clear es w) j (c .suffix) l h (declaration (c .shape) (kindNo es j) is) (says-known-part (c .suffix) .so known .begins) name) h
 
   -- and a declared one itself
   own-declared : (i : ℕ) → i < length es → Declaration (kindNo es i) → declarer es (stem (nameNo es i)) < length es

@@ -12,7 +12,7 @@ use Rattle.kinds.proofs.Cells.{looked, labels-is}
 use Rattle.kinds.proofs.Table.{few-labels}
 use Rattle.names.specs.Labels.{within}
 use Rattle.drawing.specs.Numbers.{wrongName, anyWrongName}
-use Rattle.drawing.proofs.Laws.{any-here, any-none, any-if}
+use Rattle.refusal.proofs.Search.{any-here, any-none, any-if}
 use Rattle.drawing.proofs.faults.any_wrong_name.Statement.{statement}
 use Rattle.drawing.proofs.faults.any_wrong_name.Tie as tie
 
