@@ -1,8 +1,10 @@
 #!/usr/bin/env python3
 """Written numbers and roots, and the answer that document 01 gives for each, worked out in whole numbers.
 
-  numbers.py INPUT OUTPUT   write the lines and their answers, the same bytes every time
-  numbers.py --check        hold the answers against float() and math.sqrt, and the list against its limits
+  numbers.py INPUT OUTPUT         write the lines and their answers, the same bytes every time
+  numbers.py --check              hold the answers against float() and math.sqrt, and the list against its limits
+  numbers.py --hold NUMBERS COUNT hold the program NUMBERS, such as target/bin/numbers, against so many other numbers,
+                                  every k from -22 to 22 among them; the exit status is 1 where one differs
 
 A line is read from its first byte as an expression: a number, or sqrt( expression ), at most eight deep. Its answer is
 `BITS NEXT` (16 hex digits, and the place after what was read), `refused 8 P`, `refused 9 P`, or `nothing`. What follows
@@ -12,11 +14,13 @@ ones among them, which no number of the text has; its answer is `BITS`.
 import math
 import re
 import struct
+import subprocess
 import sys
 
 MOST_DIGITS = 15
 MOST_POWER = 22
 MOST_ROOTS = 8
+CHUNK_LINES = 2000
 USUAL_LENGTH = 200
 MOST_LENGTH = 3000
 MOST_LONG_LINES = 20
@@ -458,9 +462,67 @@ def check(texts):
     print("%d lines, %d of them roots of bits; %d answers as the machine has them" % (len(texts), asked, compared))
 
 
+def ten_to(a):
+    """10^a on the machine's doubles, as request 4 has it: multiplied by ten so many times."""
+    p = 1.0
+    for _ in range(a):
+        p *= 10.0
+    return p
+
+
+def check_powers():
+    """Stops where a product of ten is not exact up to 10^22, or is past it."""
+    for a in range(MOST_POWER + 1):
+        assert int(ten_to(a)) == 10**a
+    assert int(ten_to(MOST_POWER + 1)) != 10 ** (MOST_POWER + 1)
+
+
+# ---- a program held against other numbers
+
+
+def other_numbers(count):
+    """So many numbers in reach, k going round from -22 to 22, with their digits and signs; the same every time."""
+    draw = Draw(20261116)
+    for i in range(count):
+        k = i % (2 * MOST_POWER + 1) - MOST_POWER
+        m = draw.below(10 ** draw.between(1, MOST_DIGITS))
+        sign = draw.one_of(["", "+", "-"])
+        after = draw.below(MOST_POWER + 1)
+        digits = str(m).rjust(after, "0")
+        written = pointed(digits, len(digits) - after) if after else digits
+        end = "e%d" % (k + after) if k + after or draw.below(2) else ""
+        yield sign, m, k, (sign + written + end).encode()
+
+
+def by_tens(sign, m, k):
+    """The bits of a number by one multiplication or division on the machine's doubles, by a power that request 4 gives."""
+    x = float(m) * ten_to(k) if k >= 0 else float(m) / ten_to(-k)
+    return bits_of(-x if sign == "-" else x)
+
+
+def hold(program, count):
+    """How many numbers the program, the whole numbers and request 4's way do not agree on."""
+    made, differ = list(other_numbers(count)), 0
+    for at in range(0, count, CHUNK_LINES):
+        chunk = made[at : at + CHUNK_LINES]
+        asked = b"".join(line + b"\n" for _, _, _, line in chunk)
+        told = subprocess.run([program], input=asked, stdout=subprocess.PIPE).stdout.split(b"\n")
+        told += [b"none"] * (len(chunk) + 1 - len(told))
+        for (sign, m, k, line), said in zip(chunk, told):
+            if not said == answer(line) == b"%016x %d" % (by_tens(sign, m, k), len(line)):
+                print(line.decode(), said.decode(), answer(line).decode(), "%016x" % by_tens(sign, m, k))
+                differ += 1
+        differ += told[len(chunk) :] != [b""]
+    print("%d numbers, %d differences" % (count, differ))
+    return differ
+
+
 def main():
     if sys.argv[1:] == ["--check"]:
         check(lines())
+        check_powers()
+    elif len(sys.argv) == 4 and sys.argv[1] == "--hold":
+        sys.exit(hold(sys.argv[2], int(sys.argv[3])) > 0)
     elif len(sys.argv) == 3:
         texts = lines()
         for path, rows in [(sys.argv[1], texts), (sys.argv[2], map(answer, texts))]:

@@ -1,4 +1,5 @@
--- The powers of ten up to 10^22 are f64s: 10^a is 5^a times 2^a, and 5^22 is below 2^53. Assumes nothing.
+-- The powers of ten up to 10^22 are f64s: 10^a is 5^a times 2^a, and 5^22 is below 2^53. So ten times a power below 10^22 is the next one, exactly.
+-- Assumes nothing.
 use mathlib.Core.Path.{_≡_, refl}
 use mathlib.Core.Bool.{false}
 use Prim.Native.Nat.{ℕ, zero, suc, _+_, _*_, _^_, _≤_, _<_}
@@ -6,9 +7,10 @@ use native.Mathlib.Nat.{mul-assoc, mul-mul-mul-comm, mul-one, one-le-pow, pow-su
 use native.Mathlib.Omega.{arith}
 use lib.Dec.{lit<}
 use lib.Pow.{pow-add, pow-mono, shl-lt}
-use lib.Ieee.{binary64, ofInt}
+use lib.Ieee.{binary64, ofBits, ofInt, round, mul}
 use lib.Ieee.Exact.{HasValue, round-exact}
 use Rattle.decimal.specs.Decimal.{power, wholeNumber}
+use Rattle.decimal.proofs.Operations.{mul-whole}
 
 -- ---- exact
 pub ten-pos : (a : ℕ) → 0 < 10 ^ a
@@ -28,3 +30,29 @@ power-exact a h =
     round-exact binary64 false (10 ^ a) 1 (5 ^ a) (a + 1074) (lit< tt) (few a h)
     (lt-of-lt-of-le (shl-lt 53 (a + 1074) (few a h)) (pow-mono fine))
     (rw (mul-one, pow-add 2 a 1074, five-two a) (mul-assoc (5 ^ a) (2 ^ a) (2 ^ 1074)))
+
+-- ---- ten by ten
+
+-- the f64s 1 and 10, by their bits
+pub one : ofBits binary64 0x3ff0_0000_0000_0000 ≡ wholeNumber (10 ^ 0)
+unfolding ofBits ofInt round
+one = refl
+
+pub ten : ofBits binary64 0x4024_0000_0000_0000 ≡ wholeNumber 10
+unfolding ofBits ofInt round
+ten = refl
+
+module _ (i : ℕ) (h : i < power) where
+  -- ten times 10^i is the power that follows
+  pub times-ten : mul binary64 (wholeNumber (10 ^ i)) (wholeNumber 10) ≡ wholeNumber (10 ^ (i + 1))
+  unfolding ofInt
+  times-ten = rw (pow-add 10 i 1) (mul-whole binary64 (wholeNumber (10 ^ i)) (wholeNumber 10) (10 ^ i) 10 (power-exact i (omega arith)) (power-exact 1 (omega arith)))
+
+  -- the product is exact: nothing of 10^i * 10 is rounded away
+  pub product-exact : HasValue (mul binary64 (wholeNumber (10 ^ i)) (wholeNumber 10)) false (10 ^ i * 10) 1
+  product-exact = rw (times-ten, ← pow-add 10 i 1) (power-exact (i + 1) (omega arith))
+
+-- the limit is the last: of ten times 10^22 something is rounded away
+pub not-exact : HasValue (mul binary64 (wholeNumber (10 ^ power)) (wholeNumber 10)) false (10 ^ power * 10) 1 → ⊥
+unfolding mul ofInt round
+not-exact h = absurd (omega arith)

@@ -22,36 +22,18 @@ pub const LIMIT: u64 = 1_000_000_000_000_000;
 // k is from minus this to this.
 pub const POWER: u64 = 22;
 
-// 10^a.
+// 10^a: 1 multiplied by ten a times, each product being exact.
 fn ten_to(a: u64) -> f64
     requires { ⌜ a ≤ power ⌝ }
     ensures { λ r. ⌜ r ≡ wholeNumber (10 ^ a) ⌝ }
 {
-    match a {
-        0 => 1e0,
-        1 => 1e1,
-        2 => 1e2,
-        3 => 1e3,
-        4 => 1e4,
-        5 => 1e5,
-        6 => 1e6,
-        7 => 1e7,
-        8 => 1e8,
-        9 => 1e9,
-        10 => 1e10,
-        11 => 1e11,
-        12 => 1e12,
-        13 => 1e13,
-        14 => 1e14,
-        15 => 1e15,
-        16 => 1e16,
-        17 => 1e17,
-        18 => 1e18,
-        19 => 1e19,
-        20 => 1e20,
-        21 => 1e21,
-        _ => 1e22,
+    let mut p = 1.0;
+    let mut i = 0;
+    while i < a {
+        p *= 10.0;
+        i += 1;
     }
+    p
 }
 
 // How far k is from 0.
@@ -77,9 +59,10 @@ fn decimal_f64(m: u64, scale: Scale, negative: bool) -> f64
     ensures { λ r. ⌜ Made m scale negative r ⌝ }
 {
     let x = m as f64;
+    let p = ten_to(power_of(scale));
     let v = match scale {
-        Scale::Times(a) => x * ten_to(a),
-        Scale::Over(a) => x / ten_to(a),
+        Scale::Times(_) => x * p,
+        Scale::Over(_) => x / p,
     };
     if negative { -v } else { v }
 }
