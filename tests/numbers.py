@@ -2,7 +2,8 @@
 """Written numbers and roots, and the answer that document 01 gives for each, worked out in whole numbers.
 
   numbers.py INPUT OUTPUT         write the lines and their answers, the same bytes every time
-  numbers.py --check              hold the answers against float() and math.sqrt, and the list against its limits
+  numbers.py --check              hold the answers against float() and math.sqrt, the list against its limits, and the products
+                                  of ten against the powers
   numbers.py --hold NUMBERS COUNT hold the program NUMBERS, such as target/bin/numbers, against so many other numbers,
                                   every k from -22 to 22 among them; the exit status is 1 where one differs
 
@@ -502,11 +503,12 @@ def by_tens(sign, m, k):
 
 def hold(program, count):
     """How many numbers the program, the whole numbers and request 4's way do not agree on."""
+    assert count > 2 * MOST_POWER, "too few for every k"
     made, differ = list(other_numbers(count)), 0
     for at in range(0, count, CHUNK_LINES):
         chunk = made[at : at + CHUNK_LINES]
         asked = b"".join(line + b"\n" for _, _, _, line in chunk)
-        told = subprocess.run([program], input=asked, stdout=subprocess.PIPE).stdout.split(b"\n")
+        told = subprocess.run([program], input=asked, stdout=subprocess.PIPE, check=True).stdout.split(b"\n")
         told += [b"none"] * (len(chunk) + 1 - len(told))
         for (sign, m, k, line), said in zip(chunk, told):
             if not said == answer(line) == b"%016x %d" % (by_tens(sign, m, k), len(line)):

@@ -7,8 +7,9 @@
 
 Looked at is every byte that is loaded: constants, data, and code with the numbers inside its instructions. Told are the
 doubles 10^2 to 10^22 and 10^-1 to 10^-22, at any place, and wherever three numbers in a row are each ten times the one
-before, as whole numbers or floats of 32 or 64 bits. Ten itself has to be there, or the search looks at the wrong code.
-The exit status is 1 where a power is told or ten is missing.
+beside it, rising or falling, as whole numbers or floats of 32 or 64 bits. Ten itself has to be there, or the search looks
+at the wrong code. A power that is a constant for another reason is told too, and has to be set apart then. The exit
+status is 1 where a power is told, ten is missing, or FILE is none that can be looked at.
 """
 import struct
 import sys
@@ -31,18 +32,19 @@ def objects(name, data):
     at, number = 8, 0
     while at < len(data):
         head = data[at : at + 60]
-        assert head[58:] == b"`\n", "%s: no archive" % name
+        if head[58:] != b"`\n":
+            sys.exit("%s: no archive" % name)
         size = int(head[48:58])
-        member = data[at + 60 : at + 60 + size]
-        if member.startswith(b"\x7fELF"):
-            yield "%s(%d)" % (name, number), member
+        if head[:16].rstrip() not in (b"/", b"//"):
+            yield "%s(%d)" % (name, number), data[at + 60 : at + 60 + size]
             number += 1
         at += 60 + size + size % 2
 
 
 def sections(name, data):
     """The loaded sections of an object: name, whether it is code, bytes."""
-    assert data[:6] == b"\x7fELF\x02\x01", "%s: no object of 64 bits" % name
+    if data[:6] != b"\x7fELF\x02\x01":
+        sys.exit("%s: no object of 64 bits" % name)
     table, = struct.unpack_from("<Q", data, 40)
     size, count, names = struct.unpack_from("<HHH", data, 58)
     heads = [struct.unpack_from("<IIQQQQ", data, table + i * size) for i in range(count)]
@@ -71,18 +73,19 @@ def powers(data):
 
 
 def tables(data):
-    """Each place where three numbers in a row are ten times the one before."""
+    """Each place where three numbers in a row are each ten times the one beside it, rising or falling."""
     for form in FORMS:
         size = struct.calcsize(form)
         for at in range(len(data) - 3 * size + 1):
             a, b, c = (struct.unpack_from(form, data, at + i * size)[0] for i in range(3))
-            if 1 <= a and b == 10 * a and c == 10 * b:
+            low, high = min(a, c), max(a, c)
+            if 1 <= low < b and b == 10 * low and high == 10 * b:
                 yield at, "%s, %s and %s in a row" % (a, b, c)
 
 
 def search(parts):
     """What is told of sections: each power with its section and place, and whether ten is there."""
-    told = [(name, at, what) for name, code, data in parts for at, what in [*powers(data), *([] if code else tables(data))]]
+    told = [(name, at, what) for name, _, data in parts for at, what in [*powers(data), *tables(data)]]
     return told, any(TEN in data for _, _, data in parts)
 
 
@@ -102,8 +105,12 @@ def check():
                 told, ten = search([*clean, ("one", code, b"abc" + part + b"\0" * 9)])
                 assert ten and [(name, at) for name, at, _ in told] == [("one", 3)], (k, code, told)
     for form in FORMS:
-        row = b"".join(struct.pack(form, 10**k) for k in range(3, 6))
-        assert ("row", 5) in [told[:2] for told in search([*clean, ("row", False, b"abcde" + row)])[0]], form
+        rising = [struct.pack(form, 10**k) for k in range(3, 6)]
+        for row in [rising, rising[::-1]]:
+            for code in [False, True]:
+                assert ("row", 5) in [told[:2] for told in search([*clean, ("row", code, b"abcde" + b"".join(row))])[0]], form
+    for form in ["<f", "<d"]:
+        assert search([*clean, ("infinities", False, struct.pack(form, float("inf")) * 3)]) == ([], True)
     print("the search tells what it should, and nothing else")
 
 

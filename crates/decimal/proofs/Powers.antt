@@ -46,7 +46,7 @@ module _ (i : ℕ) (h : i < power) where
   -- ten times 10^i is the power that follows
   pub times-ten : mul binary64 (wholeNumber (10 ^ i)) (wholeNumber 10) ≡ wholeNumber (10 ^ (i + 1))
   unfolding ofInt
-  times-ten = rw (pow-add 10 i 1) (mul-whole binary64 (wholeNumber (10 ^ i)) (wholeNumber 10) (10 ^ i) 10 (power-exact i (omega arith)) (power-exact 1 (omega arith)))
+  times-ten = rw (pow-add 10 i 1) (mul-whole binary64 _ _ (10 ^ i) 10 (power-exact i (omega arith)) (power-exact 1 (omega arith)))
 
   -- the product is exact: nothing of 10^i * 10 is rounded away
   pub product-exact : HasValue (mul binary64 (wholeNumber (10 ^ i)) (wholeNumber 10)) false (10 ^ i * 10) 1

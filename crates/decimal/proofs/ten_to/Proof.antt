@@ -9,6 +9,6 @@ use Rattle.decimal.proofs.ten_to.Tie as tie
 
 pub ten-to-spec : {M : Type 1} → statement M
 ten-to-spec =
-    tie.close (tie.spec (λ a p₀ i₀ p i. (i ≤ a) × (p ≡ wholeNumber (10 ^ i))) (λ a p₀ i₀ p i. a - i) (λ c. (omega arith, one)) (λ c. omega arith) (λ c. omega arith)
-    (λ c. (omega arith, rw (c .before .loop .inv .1, ten) (times-ten (c .before .loop .i) (omega arith))))
-    (λ c. let e : c .before .loop .i ≡ c .before .before .args .a = omega arith in rw e at (c .before .loop .inv .1)))
+    tie.close (tie.spec (λ a p₀ i₀ p i. (p ≡ wholeNumber (10 ^ i)) × (i ≤ a)) (λ a p₀ i₀ p i. a - i) (λ c. (one, omega arith)) (λ c. omega arith) (λ c. omega arith)
+    (λ c. (rw (c .before .loop .inv .0, ten) (times-ten (c .before .loop .i) (omega arith)), omega arith))
+    (λ c. let e : c .before .loop .i ≡ c .before .before .args .a = omega arith in rw e at (c .before .loop .inv .0)))
