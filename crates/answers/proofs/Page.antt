@@ -3,6 +3,7 @@ use mathlib.Core.Path.{_≡_, refl}
 use mathlib.Core.Bool.{true}
 use mathlib.Core.List.{List, [], _∷_}
 use Prim.Native.Nat.{ℕ}
+use Prim.Native.String.{String, _++_}
 use lib.Ieee.{toBits, round, size}
 use Rattle.text.specs.Text.{runTo, wsOn, wordAt, wordOn, byteOn, labelAt, labelOn, suffixedOn}
 use Rattle.decimal.specs.Decimal.{valueOf, carried}
@@ -17,21 +18,24 @@ use Rattle.rail.specs.Words.{quoted, spaced}
 use Rattle.lines.specs.Lines.{firstLine, lineOf}
 use Rattle.answers.specs.Answers.{listingOf}
 
--- the page, with a new line at the end
-abbrev pub page : List ℕ
-page =
+-- the page, with a new line at the end, by the names of its point and its circle, which are p and c
+abbrev pub pageWith : String → String → List ℕ
+pageWith p c =
     quoted (
     "# constraints"
-    ∷ "point p"
-    ∷ "p.x = 0"
-    ∷ "circle c"
-    ∷ "radius(c, 2)"
+    ∷ ("point " ++ p)
+    ∷ (p ++ ".x = 0")
+    ∷ ("circle " ++ c)
+    ∷ ("radius(" ++ c ++ ", 2)")
     ∷ ""
     ∷ "# guesses"
-    ∷ "p roughly (1, 2)"
-    ∷ "c.center roughly (0, 0.5)"
-    ∷ "c.radius roughly 1"
+    ∷ (p ++ " roughly (1, 2)")
+    ∷ (c ++ ".center roughly (0, 0.5)")
+    ∷ (c ++ ".radius roughly 1")
     ∷ [])
+
+abbrev pub page : List ℕ
+page = pageWith "p" "c"
 
 -- what is listed of it
 pub page-listed :

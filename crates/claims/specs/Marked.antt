@@ -1,13 +1,13 @@
 -- The twelve marked cases of docs/FORMAT.md, (a) to (l), in one table: a text, what the whole reading tells of it, and the lines that are read.
 use mathlib.Core.Bool.{true}
-use mathlib.Core.List.{List, [], _∷_, _++_, map}
+use mathlib.Core.List.{List, [], _∷_, _++_}
 use Prim.Native.Nat.{ℕ}
 use Prim.Native.String.{String}
 use lib.ListN.{length}
 use Rattle.ground.specs.Words.{bytes}
 use Rattle.refusal.specs.Refusal.{refusal}
 use Rattle.kinds.specs.Kinds.{pairGuess}
-use Rattle.record.specs.Entry.{Entry}
+use Rattle.record.specs.Entry.{Entry, entryWith}
 use Rattle.reader.specs.declared.Reading.{Reading}
 use Rattle.reader.specs.declared.Reading.the-variants as reading
 use Rattle.reader.specs.Page.{readingOf, linesOf}
@@ -42,11 +42,11 @@ page line = bytes "# constraints" ++ nl ++ bytes line ++ nl ++ nl ++ bytes "# gu
 
 -- a line by its kind, its third byte (1 for x, 2 for y), its labels and the bits of its number
 abbrev pub line : ℕ → ℕ → List String → ℕ → Entry
-line kind third labels bits = record { kind = kind; third = third; labels = map bytes labels; x = bits; y = 0 }
+line kind third labels bits = entryWith kind third labels bits 0
 
 -- the guess: p, with the bits of 1 and of 2
 abbrev pub theGuess : Entry
-theGuess = record { kind = pairGuess; third = 0; labels = bytes "p" ∷ []; x = 0x3ff0_0000_0000_0000; y = 0x4000_0000_0000_0000 }
+theGuess = entryWith pairGuess 0 ("p" ∷ []) 0x3ff0_0000_0000_0000 0x4000_0000_0000_0000
 
 -- a page that is read up to its end: these lines, and the guess
 abbrev pub readsTo : String → ℕ → List Entry → Case

@@ -3,10 +3,9 @@ use mathlib.Core.Path.{_≡_, refl}
 use mathlib.Core.List.{List, [], _∷_, _++_, map}
 use Prim.Native.Nat.{ℕ}
 use Prim.Native.String.{String}
-use Rattle.ground.specs.Words.{bytes}
 use Rattle.refusal.specs.First.{lowest, first}
 use Rattle.text.specs.Text.{runTo, wordAt, byteOn, labelAt, labelOn, suffixedOn}
-use Rattle.record.specs.Entry.{Label, Entry}
+use Rattle.record.specs.Entry.{Entry, entryWith}
 use Rattle.record.specs.Sound.{spelledTest, soundTest}
 use Rattle.record.specs.Formed.{malformedTest}
 use Rattle.names.specs.Labels.{labelled}
@@ -18,18 +17,15 @@ use check.{twice, namedAt, someNamed, guessAt, guessed, wrongPlace, wrongLabelTe
 
 -- ---- entries
 
-abbrev entry : ℕ → ℕ → List Label → Entry
-entry kind third labels = record { kind = kind; third = third; labels = labels; x = 0; y = 0 }
-
 abbrev one : ℕ → String → Entry
-one kind l = entry kind 0 (bytes l ∷ [])
+one kind l = entryWith kind 0 (l ∷ []) 0 0
 
 abbrev two : ℕ → String → String → Entry
-two kind a b = entry kind 0 (bytes a ∷ bytes b ∷ [])
+two kind a b = entryWith kind 0 (a ∷ b ∷ []) 0 0
 
 -- `l.x = 0`
 abbrev fix : ℕ → String → Entry
-fix kind l = entry kind 1 (bytes l ∷ [])
+fix kind l = entryWith kind 1 (l ∷ []) 0 0
 
 -- the page of docs/FORMAT.md without its last line, and whole
 abbrev start : List Entry

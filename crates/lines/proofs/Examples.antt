@@ -2,12 +2,10 @@
 use mathlib.Core.Path.{_≡_, refl}
 use mathlib.Core.List.{List, [], _∷_}
 use Prim.Native.Nat.{ℕ}
-use Prim.Native.String.{String}
 use lib.Ieee.{binary64, ofBits, toBits}
-use Rattle.ground.specs.Words.{bytes}
 use Rattle.refusal.specs.Refusal.{refusal}
 use Rattle.print.specs.Print.{lastDigits, hexOf, widthUpTo, decimalOf}
-use Rattle.record.specs.Entry.{Entry}
+use Rattle.record.specs.Entry.{entryWith}
 use Rattle.reader.specs.declared.Reading.the-variants.{Good, Refused}
 use Rattle.layout.specs.declared.Stage.the-variants.{Done}
 use Rattle.drawing.specs.declared.Checked.the-variants as C
@@ -17,21 +15,12 @@ use Rattle.rail.specs.Words.{joined, quoted, spaced}
 use Rattle.lines.specs.Lines.{firstLine, lineOf}
 use Rattle.lines.specs.Drawn.{checkedLine, loweredLine, slotLine, rowLine}
 
--- quoted labels
-abbrev pub texts : List String → List (List ℕ)
-texts [] = []
-texts (w ∷ ws) = bytes w ∷ texts ws
-
--- an entry by its kind, third byte, labels and numbers
-abbrev pub entry : ℕ → ℕ → List String → ℕ → ℕ → Entry
-entry kind third labels x y = record { kind = kind; third = third; labels = texts labels; x = x; y = y }
-
 pub others :
     joined (
     firstLine (Refused (refusal 10 125))
-    ∷ lineOf (entry 10 2 ("a" ∷ "b" ∷ "c" ∷ "d" ∷ []) 0x3ff0000000000000 0)
-    ∷ lineOf (entry 18 2 ("c" ∷ []) 0 0)
-    ∷ lineOf (entry 8 0 ("a" ∷ "b" ∷ "c" ∷ "d" ∷ []) 0 0)
+    ∷ lineOf (entryWith 10 2 ("a" ∷ "b" ∷ "c" ∷ "d" ∷ []) 0x3ff0000000000000 0)
+    ∷ lineOf (entryWith 18 2 ("c" ∷ []) 0 0)
+    ∷ lineOf (entryWith 8 0 ("a" ∷ "b" ∷ "c" ∷ "d" ∷ []) 0 0)
     ∷ [])
     ≡ quoted (
     "refused 10 125"

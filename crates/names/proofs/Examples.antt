@@ -5,13 +5,13 @@ use Prim.Native.Nat.{ℕ}
 use Prim.Native.String.{String}
 use Rattle.ground.specs.Words.{bytes}
 use Rattle.refusal.specs.First.{lowest}
-use Rattle.record.specs.Entry.{Entry}
+use Rattle.record.specs.Entry.{Entry, entryWith}
 use Rattle.names.specs.Labels.{labelled, lowestOr}
 use Rattle.names.specs.Chains.{hashFrom, hashOf}
 use Rattle.names.specs.Names.{nameFor, nameIn, guessesPart, guessIn}
 
 abbrev one : ℕ → String → Entry
-one kind l = record { kind = kind; third = 0; labels = bytes l ∷ []; x = 0; y = 0 }
+one kind l = entryWith kind 0 (l ∷ []) 0 0
 
 -- `aU` and `b0` have one hash; `p` is declared twice, and guessed twice
 abbrev page : List Entry

@@ -1,8 +1,10 @@
 -- A record with its labels as their text, which is what a drawing is said in: check and lowering are stated over a list of entries.
 use mathlib.Core.Path.{_≡_}
-use mathlib.Core.List.{List, []}
+use mathlib.Core.List.{List, [], map}
 use Prim.Native.Nat.{ℕ, _+_}
+use Prim.Native.String.{String}
 use lib.ListN.{getD, take, drop}
+use Rattle.ground.specs.Words.{bytes}
 use Rattle.ground.specs.Lists.{upTo}
 use Rattle.record.specs.declared.View.{View}
 use Rattle.record.specs.declared.Record.{Record}
@@ -22,6 +24,10 @@ pub record Entry : Type 0 where
 -- what bytes that are no record are read as: there is no kind 0
 abbrev pub noEntry : Entry
 noEntry = record { kind = 0; third = 0; labels = []; x = 0; y = 0 }
+
+-- an entry written out, its labels quoted
+abbrev pub entryWith : ℕ → ℕ → List String → ℕ → ℕ → Entry
+entryWith kind third labels x y = record { kind = kind; third = third; labels = map bytes labels; x = x; y = y }
 
 -- entry i, counted from 0
 abbrev pub entryAt : List Entry → ℕ → Entry

@@ -2,9 +2,9 @@
 -- Assumes nothing.
 use mathlib.Core.Path.{_≡_, refl}
 use mathlib.Core.Bool.{true, cond}
-use mathlib.Core.List.{List, [], _∷_, _++_}
+use mathlib.Core.List.{List, [], _∷_}
 use Prim.Native.Nat.{ℕ}
-use Prim.Native.String.{String}
+use Prim.Native.String.{String, _++_}
 use lib.Ieee.{toBits, round, size}
 use Rattle.ground.specs.Words.{bytes}
 use Rattle.refusal.specs.First.{lowest, first}
@@ -12,7 +12,7 @@ use Rattle.text.specs.Text.{runTo, wsOn, wordAt, wordOn, byteOn, labelAt, label
 use Rattle.decimal.specs.Decimal.{valueOf, carried}
 use Rattle.number.specs.Number.{stepOver, numeral, partAt, endAt, allDigits, noDigit, exponentAt, numberAt, numberOn, closed, exprAt, exprOn}
 use Rattle.record.specs.Record.{recordRoom}
-use Rattle.record.specs.Entry.{Label, Entry, entryOf}
+use Rattle.record.specs.Entry.{Label, Entry, entryWith, entryOf}
 use Rattle.record.specs.Sound.{spelledTest, soundTest}
 use Rattle.record.specs.Formed.{malformedTest}
 use Rattle.forms.specs.Forms.{aroundOn, eitherOn, pairOn, declareOn, fixedOn, assignOn, moreOn, angleOn, amountOn, gapOn, keywordOn, firstOf, labelFormsOn, instructionOn, guessedOn, guessOn}
@@ -23,37 +23,24 @@ use Rattle.names.specs.Labels.{same, labelled}
 use Rattle.drawing.specs.declared.Checked.the-variants as checked
 use Rattle.drawing.specs.Check as check
 use check.{twice, namedAt, someNamed, guessAt, guessed, wrongPlace, wrongLabelTest, noSuchPartTest, withoutGuessTest, checkOf, countBelow, checkedOf}
-use Rattle.rail.specs.Words.{quoted}
 use Rattle.answers.specs.Answers.{loweringOf}
-use Rattle.answers.proofs.Page.{page}
-use Rattle.renaming.proofs.Examples.{one, relabelled}
+use Rattle.answers.proofs.Page.{pageWith, page}
+use Rattle.renaming.proofs.Examples.{relabelled}
 use Rattle.renaming.proofs.Pages.{printed-alike}
 
 abbrev exchanged : List ℕ
-exchanged =
-    quoted (
-    "# constraints"
-    ∷ "point c"
-    ∷ "c.x = 0"
-    ∷ "circle p"
-    ∷ "radius(p, 2)"
-    ∷ ""
-    ∷ "# guesses"
-    ∷ "c roughly (1, 2)"
-    ∷ "p.center roughly (0, 0.5)"
-    ∷ "p.radius roughly 1"
-    ∷ [])
+exchanged = pageWith "c" "p"
 
 -- the lines of such a page, by the names of its point and its circle
 abbrev drawn : String → String → List Entry
 drawn p c =
-    one 1 0 (bytes p) 0 0
-    ∷ one 4 1 (bytes p) 0 0
-    ∷ one 2 0 (bytes c) 0 0
-    ∷ one 15 0 (bytes c) 0x4000_0000_0000_0000 0
-    ∷ one 24 0 (bytes p) 0x3ff0_0000_0000_0000 0x4000_0000_0000_0000
-    ∷ one 24 0 (bytes c ++ bytes ".center") 0 0x3fe0_0000_0000_0000
-    ∷ one 25 0 (bytes c ++ bytes ".radius") 0x3ff0_0000_0000_0000 0
+    entryWith 1 0 (p ∷ []) 0 0
+    ∷ entryWith 4 1 (p ∷ []) 0 0
+    ∷ entryWith 2 0 (c ∷ []) 0 0
+    ∷ entryWith 15 0 (c ∷ []) 0x4000_0000_0000_0000 0
+    ∷ entryWith 24 0 (p ∷ []) 0x3ff0_0000_0000_0000 0x4000_0000_0000_0000
+    ∷ entryWith 24 0 ((c ++ ".center") ∷ []) 0 0x3fe0_0000_0000_0000
+    ∷ entryWith 25 0 ((c ++ ".radius") ∷ []) 0x3ff0_0000_0000_0000 0
     ∷ []
 
 read : (readingOf true page recordRoom ≡ reading.Good 4 3 125)
