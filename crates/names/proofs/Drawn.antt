@@ -9,7 +9,7 @@ use native.Mathlib.Decide.{dec_lt}
 use lib.ListN.{length, get_or, drop, get_or-eq_default}
 use lib.Seq.{get_or-take, get_or-drop, ext_get_or}
 use borrow.Author.Tests.{lt-ltb, le-ltb, lt-leb, ne_eqb}
-use Rattle.bytes.specs.Little.{byte, u16}
+use Rattle.little.specs.Little.{byte, u16}
 use Rattle.record.specs.Record.{record_bytes, first_guess}
 use Rattle.record.specs.Decode.{decode, count_of, record_of, decode_at, view_at, place_in, has_place}
 use Rattle.record.specs.Entry.{Entry, no_entry, entry_at, label_no, part, named, entry_of, no_view, view_of}

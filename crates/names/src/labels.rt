@@ -6,7 +6,7 @@ ghost use Rattle.record.specs.Entry.{entry_at, label_no};
 ghost use Rattle.record.specs.Laid.{LaidOut};
 ghost use Rattle.names.specs.Labels.{drawn, same as same_label};
 
-use bytes::u16_of;
+use little::u16_of;
 use record::SIZE;
 
 // The kind of a record that is there.

@@ -12,8 +12,8 @@ use borrow.Author.Tests.{leb-true, leb-false, lt-ltb}
 use Rattle.ground.specs.Lists.{flat}
 use Rattle.ground.proofs.Pieces.{each_of, length_flat, piece_at}
 use Rattle.refusal.specs.First.{EachBelow}
-use Rattle.bytes.proofs.Little.{number_le}
-use Rattle.bytes.specs.Little.{byte}
+use Rattle.little.proofs.Little.{number_le}
+use Rattle.little.specs.Little.{byte}
 use Rattle.text.proofs.Laws.{cond_of}
 use Rattle.kinds.specs.Kinds.{label_places}
 use Rattle.record.specs.Entry.{no_view, view_of}

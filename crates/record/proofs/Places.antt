@@ -7,8 +7,8 @@ use native.Mathlib.Omega.{arith}
 use lib.Dec.{ltb, eqb}
 use Rattle.refusal.specs.First.{EachBelow, all_below}
 use Rattle.refusal.proofs.Says.{says_once, says_and, says_iff, says_eq}
-use Rattle.bytes.specs.Little.{byte, u16, u64}
-use Rattle.bytes.proofs.Little.{next_place}
+use Rattle.little.specs.Little.{byte, u16, u64}
+use Rattle.little.proofs.Little.{next_place}
 use Rattle.kinds.specs.Kinds.{label_places}
 use Rattle.record.specs.Decode.{is_guess, view_at, decode}
 use Rattle.record.specs.Sound.{placed_test, all_placed}

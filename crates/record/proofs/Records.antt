@@ -11,7 +11,7 @@ use lib.ListN.{length}
 use borrow.Author.Tests.{eqb-true, eq-eqb, lt-leb}
 use Rattle.refusal.specs.First.{EachBelow}
 use Rattle.refusal.proofs.Says.{Says, refuted, says_once, says_and, says_unless, says_if, says_iff, says_eq, says_le, says_lt, says_all}
-use Rattle.bytes.specs.Little.{byte, u16}
+use Rattle.little.specs.Little.{byte, u16}
 use Rattle.kinds.specs.Kinds.{new_arc, kind_at, numberless, pair, label_places, Known}
 use Rattle.record.specs.Record.{record_bytes, longest_text, mark, first_guess}
 use Rattle.record.specs.Decode.{view_at, place_in, has_place, decode}

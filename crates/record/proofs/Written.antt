@@ -8,7 +8,7 @@ use borrow.Author.Tests.{le-leb, lt-ltb}
 use Rattle.refusal.specs.First.{EachBelow}
 use Rattle.refusal.proofs.Says.{says_eq, says_all}
 use Rattle.text.proofs.Laws.{cond_of}
-use Rattle.bytes.specs.Little.{byte}
+use Rattle.little.specs.Little.{byte}
 use Rattle.kinds.specs.Kinds.{label_places}
 use Rattle.record.specs.declared.Record.{Record}
 use Rattle.record.specs.Record.{mark, first_guess, instruction, guess, encode, longest_text}

@@ -2,7 +2,7 @@
 use Rattle.std.specs.Prelude.{◌≡◌, Bool, not, ◌||◌, cond, List, ℕ, ◌+◌, ◌*◌, ◌/◌, ◌^◌, ◌≤◌, ◌<◌, leb, ltb, eqb, length, take, drop, replicate}
 use Rattle.ground.specs.Lists.{up_to}
 use Rattle.refusal.specs.First.{EachBelow}
-use Rattle.bytes.specs.Little.{byte, u16, u64}
+use Rattle.little.specs.Little.{byte, u16, u64}
 use Rattle.kinds.specs.Kinds.{label_places}
 use Rattle.record.specs.declared.View.{View}
 use Rattle.record.specs.declared.Record.{Record}

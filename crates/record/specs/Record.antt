@@ -1,7 +1,7 @@
 -- A record and its bytes (docs/FORMAT.md, "Record").
 use Rattle.std.specs.Prelude.{cond, List, [], ◌∷◌, ◌++◌, ℕ, ◌*◌, ◌-◌, leb, replicate}
 use Rattle.ground.specs.Lists.{flat, up_to}
-use Rattle.bytes.specs.Little.{le16, le64}
+use Rattle.little.specs.Little.{le16, le64}
 use Rattle.record.specs.declared.View.{View}
 use Rattle.record.specs.declared.Record.{Record}
 use Rattle.kinds.specs.Kinds.{pair_guess, label_places}

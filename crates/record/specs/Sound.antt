@@ -4,7 +4,7 @@ use Rattle.text.specs.Text.{is_alphanum, label_on, dotted_on}
 use Rattle.text.specs.declared.Stand.TheVariants.{At}
 use Rattle.text.specs.declared.ReadLabel.{ReadLabel}
 use Rattle.refusal.specs.First.{EachBelow, all_below}
-use Rattle.bytes.specs.Little.{byte}
+use Rattle.little.specs.Little.{byte}
 use Rattle.record.specs.declared.View.{View}
 use Rattle.record.specs.declared.Record.{Record}
 use Rattle.kinds.specs.Kinds.{Kind, Known, kind_at, numberless, pair, label_places}

@@ -1,6 +1,6 @@
 -- What the contracts of private functions go by. It mirrors the code and need not be read: that it is what Sound's tests say is proved.
 use Rattle.std.specs.Prelude.{◌≡◌, Bool, true, not, ◌&&◌, ◌||◌, List, ℕ, leb, ltb, eqb, length}
-use Rattle.bytes.specs.Little.{byte}
+use Rattle.little.specs.Little.{byte}
 use Rattle.kinds.specs.Kinds.{kind_at, numberless, pair}
 use Rattle.record.specs.Record.{record_bytes, mark}
 use Rattle.record.specs.Decode.{is_guess, decode}

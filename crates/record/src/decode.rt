@@ -1,11 +1,11 @@
 // A record's fields back from its bytes.
 ghost use Rattle.std.specs.Prelude.{◌≡◌, true, false, ◌+◌, ◌<◌, length};
 ghost use Rattle.record.specs.Record.{record_bytes};
-ghost use Rattle.bytes.specs.Little.{byte, u64};
+ghost use Rattle.little.specs.Little.{byte, u64};
 ghost use Rattle.record.specs.Decode.{is_guess, view_at, decode, decode_at};
 
 use super::{Record, SIZE, View, no_record};
-use bytes::{u16_of, u64_of};
+use little::{u16_of, u64_of};
 use kinds::PAIR_GUESS;
 
 // The view that is written in the four bytes from k on.

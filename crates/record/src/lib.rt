@@ -8,7 +8,7 @@ ghost use Rattle.std.specs.Prelude.{◌≡◌};
 ghost use Rattle.record.specs.Record.{one_label, encode_view, encode, instruction, guess};
 ghost use Rattle.record.specs.Decode.{no_record};
 
-use bytes::{le16, le64};
+use little::{le16, le64};
 use kinds::PAIR_GUESS;
 
 // The length of a record, the most records of a list, the room that they take, and the longest text.

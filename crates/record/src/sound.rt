@@ -1,6 +1,6 @@
 // Whether a record, judged by itself, is a good one.
 ghost use Rattle.std.specs.Prelude.{◌≡◌, true, false, not, ◌&&◌, ◌||◌, ◌+◌, ◌≤◌, ◌<◌, leb, eqb, length};
-ghost use Rattle.bytes.specs.Little.{byte, u16};
+ghost use Rattle.little.specs.Little.{byte, u16};
 ghost use Rattle.kinds.specs.Kinds.{table, kind_at};
 ghost use Rattle.record.specs.Record.{record_bytes, first_guess};
 ghost use Rattle.record.specs.Decode.{is_guess, decode};

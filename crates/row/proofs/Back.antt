@@ -7,7 +7,7 @@ use lib.ListN.{length, get_or}
 use borrow.Author.Tests.{le-ltb}
 use Rattle.ground.specs.Lists.{up_to}
 use Rattle.ground.proofs.Pieces.{Each, each_of, length_flat, piece_at}
-use Rattle.bytes.proofs.Little.{number_le}
+use Rattle.little.proofs.Little.{number_le}
 use Rattle.ground.proofs.UpTo.{get_or_up_to, up_to_list}
 use Rattle.row.specs.Row.{Row, row_bytes, most_ids, eight, held, bytes_of, encode_row, encode_rows, row_no, id_at, held_in, meant, decode_row, RowFits}
 

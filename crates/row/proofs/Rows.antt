@@ -12,7 +12,7 @@ use borrow.Author.Tests.{lt-ltb}
 use Rattle.ground.proofs.Pieces.{Each, each_at}
 use Rattle.refusal.specs.First.{EachBelow}
 use Rattle.refusal.proofs.Says.{Says, says_iff, says_and, says_if, says_all, says_eq, says_le, says_lt, says_so}
-use Rattle.bytes.specs.Little.{byte}
+use Rattle.little.specs.Little.{byte}
 use Rattle.layout.specs.Slots.{size_of}
 use Rattle.layout.specs.declared.ShapeKind.TheVariants.{Point, Circle, Arc}
 use Rattle.kinds.specs.Kinds.{table, cell, kind_at, needs_column, first_rule, last_rule, numberless, label_places}

@@ -2,7 +2,7 @@
 use Rattle.std.specs.Prelude.{◌≡◌, Bool, not, ◌&&◌, ◌||◌, List, [], ◌∷◌, ℕ, ◌/◌, ◌%◌, ◌≤◌, leb, ltb, eqb, length, get_or}
 use Rattle.ground.specs.Lists.{sum_to}
 use Rattle.refusal.specs.First.{EachBelow, all_below}
-use Rattle.bytes.specs.Little.{byte}
+use Rattle.little.specs.Little.{byte}
 use Rattle.layout.specs.Slots.{size_of}
 use Rattle.layout.specs.declared.ShapeKind.TheVariants.{Point, Circle, Arc}
 use Rattle.kinds.specs.Kinds.{Kind, kind_at, first_rule, last_rule, Rule, numberless, label_places}

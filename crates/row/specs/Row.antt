@@ -1,7 +1,7 @@
 -- The row of 44 bytes that a rule is lowered to (docs/FORMAT.md, "Lowering"), as bytes and back from them.
 use Rattle.std.specs.Prelude.{cond, List, ◌∷◌, ◌++◌, ℕ, ◌+◌, ◌*◌, ◌/◌, ◌^◌, ◌≤◌, ◌<◌, ltb, length, get_or, take, drop, replicate}
 use Rattle.ground.specs.Lists.{flat, up_to}
-use Rattle.bytes.specs.Little.{le32, le64, byte, u32, u64}
+use Rattle.little.specs.Little.{le32, le64, byte, u32, u64}
 use Rattle.row.specs.declared.Row.{Row as Held}
 
 -- a rule with ids in the place of labels

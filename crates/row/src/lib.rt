@@ -3,10 +3,10 @@
 pub mod formed;
 
 ghost use Rattle.std.specs.Prelude.{◌≡◌, ◌+◌, ◌<◌, length};
-ghost use Rattle.bytes.specs.Little.{u32, u64};
+ghost use Rattle.little.specs.Little.{u32, u64};
 ghost use Rattle.row.specs.Row.{row_bytes, bytes_of, held_in, row_of};
 
-use bytes::{le32, le64, u32_of, u64_of};
+use little::{le32, le64, u32_of, u64_of};
 
 // The length of a row, the first byte of its mark, and the most ids that it has.
 pub const ROW: usize = 44;

@@ -2,7 +2,6 @@
 use mathlib.Core.Path.{◌≡◌, refl, ap}
 use mathlib.Core.Bool.{Bool, true, false, cond}
 use mathlib.Core.List.{List, [], ◌∷◌, ◌++◌}
-use mathlib.Core.Logic.{⊎_elim}
 use Prim.Native.Nat.{ℕ, ◌+◌, ◌≤◌, ◌<◌}
 use native.Mathlib.Numerals.{add-one}
 use native.Mathlib.Nat.{lt_of_not-le}
@@ -10,26 +9,23 @@ use native.Mathlib.Omega.{arith}
 use lib.ListN.{length, drop, get_or, drop_of_length-le, get_or-eq_default}
 use lib.Seq.{drop-cons}
 use borrow.Author.Tests.{eq-eqb, ne_eqb}
-use types.Run.{OneOf}
-use denote.Enum.Declared.{tag_of}
 use Rattle.ground.proofs.Pieces.{Each}
 use Rattle.text.specs.Text.{from, or_stand, leading, run_to, starts}
 use Rattle.text.specs.declared.Stand.{Stand}
 use Rattle.text.specs.declared.Stand.TheVariants.{At, Nothing, Refused}
-use Rattle.text.specs.contracts.Stand.{the_type}
 
 -- ---- the rail
 
 -- a stand that is no place is handed on
-pub handed {ℓ} : {X : Type ℓ} (stand : Stand) (rest : X) (read : ℕ → X) → OneOf (1 ∷ 2 ∷ []) (tag_of the_type stand) → rest ≡ from stand rest read
-handed (At n) rest read h = absurd (⊎_elim (λ (e : 0 ≡ 1). omega arith) (λ (e : 0 ≡ 2). omega arith) h)
+pub handed {ℓ} : {X : Type ℓ} (stand : Stand) (rest : X) (read : ℕ → X) → ((n : ℕ) → stand ≡ At n → ⊥) → rest ≡ from stand rest read
+handed (At n) rest read h = absurd (h n refl)
 handed Nothing rest read h = refl
 handed (Refused why) rest read h = refl
 
 -- where the first of two reads something, or refuses, it is taken
-pub taken : {X : Type 0} (stand : Stand) (first second : X) → OneOf (0 ∷ 2 ∷ []) (tag_of the_type stand) → first ≡ or_stand stand first second
+pub taken : {X : Type 0} (stand : Stand) (first second : X) → (stand ≡ Nothing → ⊥) → first ≡ or_stand stand first second
 taken (At n) first second h = refl
-taken Nothing first second h = absurd (⊎_elim (λ (e : 1 ≡ 0). omega arith) (λ (e : 1 ≡ 2). omega arith) h)
+taken Nothing first second h = absurd (h refl)
 taken (Refused why) first second h = refl
 
 -- reading stands at a place

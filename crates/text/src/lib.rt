@@ -1,6 +1,7 @@
 // Where reading stands in a text, and the smallest things that are read there: spaces, labels, words, bytes, new lines.
 // Each reader goes on from a place, and hands on a stand that is no place.
 #![tactic(auto)]
+
 ghost use Rattle.std.specs.Prelude.{◌≡◌, get_or};
 ghost use Rattle.text.specs.Text.{or_stand, missed, due, is_space, is_alphanum, spaces_to, alphanum_to, ws_on, label_on, with_second, suffixed_on, dotted_on, word_at, word_on, byte_on, newline_on};
 

@@ -3,7 +3,7 @@ use borrow.Author.Rules.{rules}
 use mathlib.Core.List.{List, ◌∷◌, ◌++◌}
 use Prim.Native.Nat.{ℕ}
 use Rattle.ground.specs.Lists.{up_to}
-use Rattle.bytes.specs.Little.{byte}
+use Rattle.little.specs.Little.{byte}
 use Rattle.record.specs.Record.{mark}
 use Rattle.record.proofs.instruction_bytes.Statement.{statement}
 use Rattle.record.proofs.instruction_bytes.Tie as tie

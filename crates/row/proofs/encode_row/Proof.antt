@@ -1,7 +1,7 @@
 -- `row::encode_row` meets its contract: each number is written to its bytes. Assumes nothing.
 use mathlib.Core.List.{[], ◌∷◌, ◌++◌}
 use Rattle.ground.specs.Lists.{flat, up_to}
-use Rattle.bytes.specs.Little.{byte}
+use Rattle.little.specs.Little.{byte}
 use Rattle.row.specs.Row.{row_mark, bytes_of}
 use borrow.Author.Rules.{rules}
 use Rattle.row.proofs.encode_row.Statement.{statement}

@@ -1,7 +1,7 @@
 -- `record::decode::u64_at` meets its contract: each byte is read at its place. Assumes nothing.
 use borrow.Author.Rules.{rules}
 use mathlib.Core.Path.{◌∙◌}
-use Rattle.bytes.proofs.Little.{next_place}
+use Rattle.little.proofs.Little.{next_place}
 use Rattle.record.proofs.decode.u64_at.Statement.{statement}
 use Rattle.record.proofs.decode.u64_at.Tie as tie
 

@@ -4,7 +4,7 @@ use mathlib.Core.Path.{ap, ◌∙◌}
 use mathlib.Core.Bool.{◌&&◌}
 use lib.Dec.{leb}
 use lib.ListN.{length}
-use Rattle.bytes.specs.Little.{byte}
+use Rattle.little.specs.Little.{byte}
 use Rattle.kinds.specs.Kinds.{with_point}
 use Rattle.record.specs.Record.{longest_text}
 use Rattle.record.specs.Decode.{decode}

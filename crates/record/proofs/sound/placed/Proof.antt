@@ -6,7 +6,7 @@ use Prim.Native.Nat.{◌+◌, ◌<◌}
 use native.Mathlib.Omega.{arith}
 use lib.Dec.{leb}
 use borrow.Author.Tests.{lt-ltb}
-use Rattle.bytes.specs.Little.{byte, u16}
+use Rattle.little.specs.Little.{byte, u16}
 use Rattle.record.proofs.Places.{views_zero, places_are}
 use Rattle.record.proofs.sound.placed.Statement.{statement}
 use Rattle.record.proofs.sound.placed.Tie as tie

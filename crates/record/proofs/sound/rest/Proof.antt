@@ -4,7 +4,7 @@ use mathlib.Core.Bool.{and-true, or-true}
 use mathlib.Core.Path.{◌≡◌}
 use native.Mathlib.Omega.{arith}
 use borrow.Author.Tests.{le-leb, lt-leb}
-use Rattle.bytes.specs.Little.{byte}
+use Rattle.little.specs.Little.{byte}
 use Rattle.record.specs.Decode.{decode}
 use Rattle.record.specs.Steps.{rest_test}
 use Rattle.record.proofs.sound.rest.Statement.{statement}

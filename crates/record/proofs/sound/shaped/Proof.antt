@@ -4,7 +4,7 @@ use borrow.Author.Rules.{rules}
 use mathlib.Core.Path.{◌≡◌, sym, ◌∙◌}
 use native.Mathlib.Omega.{arith}
 use borrow.Author.Tests.{not-true, not-false}
-use Rattle.bytes.specs.Little.{byte}
+use Rattle.little.specs.Little.{byte}
 use Rattle.kinds.specs.Kinds.{kind_at}
 use Rattle.record.specs.Record.{mark}
 use Rattle.record.specs.Steps.{head_by, shape_test}

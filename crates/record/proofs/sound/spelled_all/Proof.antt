@@ -6,7 +6,7 @@ use mathlib.Core.Bool.{◌&&◌}
 use Prim.Native.Nat.{◌-◌, ◌≤◌}
 use native.Mathlib.Numerals.{add-one}
 use native.Mathlib.Omega.{arith}
-use Rattle.bytes.specs.Little.{byte}
+use Rattle.little.specs.Little.{byte}
 use Rattle.record.specs.declared.View.{View}
 use Rattle.refusal.specs.First.{all_below}
 use Rattle.record.specs.Decode.{decode}

@@ -1,17 +1,17 @@
 -- The promise of each public function, as its source states it, determines the answer: each is an equation. Assumes nothing.
 use Rattle.ground.proofs.Determined.{Determined, by_equation}
-use Rattle.bytes.proofs.le16.Kinds as le16_kinds
-use Rattle.bytes.proofs.le16.Reads as le16
-use Rattle.bytes.proofs.le32.Kinds as le32_kinds
-use Rattle.bytes.proofs.le32.Reads as le32
-use Rattle.bytes.proofs.le64.Kinds as le64_kinds
-use Rattle.bytes.proofs.le64.Reads as le64
-use Rattle.bytes.proofs.u16_of.Kinds as u16_of_kinds
-use Rattle.bytes.proofs.u16_of.Reads as u16_of
-use Rattle.bytes.proofs.u32_of.Kinds as u32_of_kinds
-use Rattle.bytes.proofs.u32_of.Reads as u32_of
-use Rattle.bytes.proofs.u64_of.Kinds as u64_of_kinds
-use Rattle.bytes.proofs.u64_of.Reads as u64_of
+use Rattle.little.proofs.le16.Kinds as le16_kinds
+use Rattle.little.proofs.le16.Reads as le16
+use Rattle.little.proofs.le32.Kinds as le32_kinds
+use Rattle.little.proofs.le32.Reads as le32
+use Rattle.little.proofs.le64.Kinds as le64_kinds
+use Rattle.little.proofs.le64.Reads as le64
+use Rattle.little.proofs.u16_of.Kinds as u16_of_kinds
+use Rattle.little.proofs.u16_of.Reads as u16_of
+use Rattle.little.proofs.u32_of.Kinds as u32_of_kinds
+use Rattle.little.proofs.u32_of.Reads as u32_of
+use Rattle.little.proofs.u64_of.Kinds as u64_of_kinds
+use Rattle.little.proofs.u64_of.Reads as u64_of
 
 pub le16_only : Determined 0 le16_kinds.ps le16_kinds.r le16.Post
 le16_only κs a x y e f p q = by_equation p q

@@ -1,7 +1,7 @@
 // Numbers of two, four and eight bytes, the lowest byte first: written to bytes, and read from them.
 #![tactic(auto)]
 ghost use Rattle.std.specs.Prelude.{◌≡◌, [], ◌∷◌};
-ghost use Rattle.bytes.specs.Little.{le, le_at};
+ghost use Rattle.little.specs.Little.{le, le_at};
 
 // A number as two bytes; of one that is too large, its lowest two.
 pub fn le16(n: usize) -> [u8; 2]

@@ -6,7 +6,7 @@ use native.Mathlib.Nat.{pow-suc, div-lt_iff_lt-mul}
 use native.Mathlib.Omega.{arith}
 use lib.ListN.{length, length-append}
 use lib.Seq.{get_or_at}
-use Rattle.bytes.specs.Little.{le, le_at}
+use Rattle.little.specs.Little.{le, le_at}
 
 -- a place behind another, as the code counts it
 pub next_place : (k i : ℕ) → k + i + 1 ≡ k + (i + 1)

@@ -1,0 +1,12 @@
+-- What the loop keeps, and what falls.
+use mathlib.Core.Path.{◌≡◌}
+use Prim.Native.Nat.{◌-◌}
+use lib.ListN.{length}
+use Rattle.text.specs.Text.{spaces_to}
+use Rattle.text.proofs.spaces_to.Given as goal
+
+abbrev pub invariant-loop-i : goal.invariant-loop-i
+invariant-loop-i l = spaces_to l.text l.at ≡ spaces_to l.text l.i
+
+abbrev pub decreases-loop-i : goal.decreases-loop-i
+decreases-loop-i l = length l.text - l.i
