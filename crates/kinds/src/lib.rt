@@ -1,5 +1,6 @@
 // THE table of the 25 kinds, which reader, check and lowering all read, and the words of their forms beside it.
 #![tactic(auto)]
+
 ghost use Rattle.std.specs.Prelude.{◌≡◌};
 ghost use Rattle.kinds.specs.Kinds.{table, cell, word_of, in_field, begins};
 
