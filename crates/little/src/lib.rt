@@ -1,5 +1,6 @@
 // Numbers of two, four and eight bytes, the lowest byte first: written to bytes, and read from them.
 #![tactic(auto)]
+
 ghost use Rattle.std.specs.Prelude.{◌≡◌, [], ◌∷◌};
 ghost use Rattle.little.specs.Little.{le, le_at};
 

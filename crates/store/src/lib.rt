@@ -1,5 +1,6 @@
 // Bytes put into a lent buffer at a place, where there is room for them.
 #![tactic(auto)]
+
 ghost use Rattle.store.specs.Store.{Put};
 
 // Copies `src` into `buf` from `at` on, and tells whether it had room; where it had none, `buf` stays as it was.
