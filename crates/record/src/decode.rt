@@ -5,8 +5,8 @@ ghost use Rattle.little.specs.Little.{byte, u64};
 ghost use Rattle.record.specs.Decode.{is_guess, view_at, decode, decode_at};
 
 use super::{Record, SIZE, View, no_record};
-use little::{u16_of, u64_of};
 use kinds::PAIR_GUESS;
+use little::{u16_of, u64_of};
 
 // The view that is written in the four bytes from k on.
 pub(crate) fn view_at(b: &[u8], k: usize) -> View

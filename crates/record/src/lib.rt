@@ -1,5 +1,6 @@
 // The record of 28 bytes that a line of a page is read to.
 #![tactic(auto)]
+
 pub mod decode;
 pub mod formed;
 pub mod sound;
@@ -8,8 +9,8 @@ ghost use Rattle.std.specs.Prelude.{◌≡◌};
 ghost use Rattle.record.specs.Record.{one_label, encode_view, encode, instruction, guess};
 ghost use Rattle.record.specs.Decode.{no_record};
 
-use little::{le16, le64};
 use kinds::PAIR_GUESS;
+use little::{le16, le64};
 
 // The length of a record, the most records of a list, the room that they take, and the longest text.
 pub const SIZE: usize = 28;

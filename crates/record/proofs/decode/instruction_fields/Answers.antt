@@ -1,0 +1,7 @@
+-- `record::decode::instruction_fields` meets its contract: each field is read at its place. Assumes nothing.
+use Rattle.record.specs.Decode.{decode}
+use Rattle.record.proofs.decode.instruction_fields.Goals as goal
+
+pub returns : goal.returns
+unfolding decode
+returns c = rw (c.requires.1, ← c.view_at.ensures, ← c.view_at-2.ensures, ← c.view_at-3.ensures, ← c.view_at-4.ensures, ← c.u64_at.ensures)
