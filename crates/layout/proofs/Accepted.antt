@@ -83,7 +83,7 @@ module _ (first : State) where
           layout_is = next.layout_is ∙ rw e (ap stepped (more_one k (length (map make xs)) s.layout));
           keeps = rw append_assoc at next.keeps;
           took = λ rest. rw c (ap (λ (z : List Figure). make x ∷ z) (next.took rest));
-          went = λ rest. ap (run (map push (map make xs) ++ (done ∷ rest))) (answered_passed reason_number _ (told_in (kind_of (make x)) s) _ c) ∙ next.went rest;
+          went = λ rest. ap (run (map push (map make xs) ++ (done ∷ rest))) (answered_passed reason_number (λ r. s) (told_in (kind_of (make x)) s) _ c) ∙ next.went rest;
         }
 
 module _ (next : ℕ) (ids : List ℕ) (values : List Float) (ps : List Point) (cs : List Circle) (xs : List Arc) (room : RunRoom (state empty next ids values) (length ps) (length cs) (length xs)) where

@@ -1,6 +1,7 @@
 // A layout of points, circles and arcs over two lent slices, one of ids and one of values. Here are its types; `check` has the tests behind the refusals,
 // `push` fills slots, `look` finds a shape's ids and reads it out, and `lent` pushes with the counter of ids lent.
 #![tactic(auto)]
+
 ghost use Rattle.std.specs.Prelude.{◌≡◌};
 ghost use Rattle.layout.specs.Slots.{empty};
 

@@ -1,2 +1,0 @@
--- What the proofs of the pushes with the counter lent share.
-mod Walk
