@@ -1,5 +1,6 @@
 // A number as the bits of an f64 and as an f64, a NaN included. Every NaN is written 7ff8000000000000.
 #![tactic(auto)]
+
 ghost use Rattle.std.specs.Prelude.{◌≡◌};
 ghost use Rattle.std.specs.Float.{binary64};
 ghost use Rattle.std.specs.Float.Ieee.{of_bits, to_bits};

@@ -1,5 +1,6 @@
 // A decimal number, m times 10^k with a sign, as the bits of an f64: one f64 operation on exact operands, then the sign.
 #![tactic(auto)]
+
 ghost use Rattle.std.specs.Prelude.{◌≡◌, true, ◌^◌, ◌≤◌};
 ghost use Rattle.decimal.specs.Decimal.{power, power_of, fits, whole_number, Made, carried};
 

@@ -1,5 +1,6 @@
 // The square root of an f64, from its bits to the root's bits, in whole numbers of at most 64 bits.
 #![tactic(auto)]
+
 ghost use Rattle.std.specs.Prelude.{◌≡◌, ◌*◌, ◌^◌, ◌<◌, ◌≤◌};
 ghost use Rattle.root.specs.Function.{nearest_root, scaled_root};
 ghost use Rattle.root.specs.Promise.{Rooted};
