@@ -1,11 +1,8 @@
 -- The laws of a header line: whether a word was read, and a number with one digit more. Assumes nothing.
-use Rattle.std.proofs.Common.{◌≡◌, ℕ, ◌+◌, ◌<◌, ◌≤◌, Bool, true, false, cond, List, [], ◌∷◌, length, get_or, drop, refl, ⊎_elim, add-one, arith, drop_of_length-le, drop-cons}
-use denote.Enum.Declared.{tag_of}
-use types.Run.{OneOf}
+use Rattle.std.proofs.Common.{◌≡◌, ℕ, ◌+◌, ◌<◌, ◌≤◌, Bool, true, false, cond, List, length, get_or, drop, refl, add-one, drop_of_length-le, drop-cons}
 use Rattle.text.specs.declared.Stand.{Stand}
 use Rattle.text.specs.declared.Stand.TheVariants.{At, Nothing}
 use Rattle.text.specs.Text.{starts, word_at, word_on}
-use Rattle.text.specs.contracts.Stand.{the_type}
 use Rattle.batch.specs.Header.{one_more, size_after}
 
 -- ---- words
@@ -19,13 +16,13 @@ module _ (s w : List ℕ) (x : Stand) (e : x ≡ word_on s (At 0) w) where
       go true g = refl
       go false g = cc
 
-  pub word_lacks : OneOf (1 ∷ 2 ∷ []) (tag_of the_type x) → false ≡ starts w s
+  pub word_lacks : ((n : ℕ) → x ≡ At n → ⊥) → false ≡ starts w s
   unfolding word_on word_at
   word_lacks h = go (starts w s) e
     where
       go : (t : Bool) → x ≡ cond t (At (0 + length w)) Nothing → false ≡ t
       go false g = refl
-      go true g = absurd (⊎_elim (λ (z : 0 ≡ 1). omega arith) (λ (z : 0 ≡ 2). omega arith) (rw g at h))
+      go true g = absurd (h (0 + length w) g)
 
 -- ---- numbers
 

@@ -1,5 +1,6 @@
 // The header line of a batch's block: what is asked of the text that follows, and its length. `line` has what other lines are read by.
 #![tactic(auto)]
+
 ghost use Rattle.std.specs.Prelude.{◌≡◌};
 ghost use Rattle.text.specs.Text.{starts};
 ghost use Rattle.batch.specs.Header.{one_more, digits_start, size_written, header_of};

@@ -1,5 +1,6 @@
 // The bytes that programs print of a number: sixteen hex digits, or its decimal digits.
 #![tactic(auto)]
+
 ghost use Rattle.std.specs.Prelude.{◌≡◌, ◌≤◌, ◌<◌, length};
 ghost use Rattle.print.specs.Print.{sign_of, last_digits, hex_of, width, digits_of};
 

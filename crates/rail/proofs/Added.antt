@@ -9,7 +9,7 @@ use native.Mathlib.Decide.{dec_le}
 use native.Mathlib.Omega.{arith}
 use lib.ListN.{length, length-append}
 use borrow.Author.Tests.{le-leb, lt-leb}
-use Rattle.store.specs.Store.{room, written, Put}
+use Rattle.store.specs.Store.{written, Put}
 use Rattle.store.proofs.Laws.{written_length, written_append}
 use Rattle.rail.specs.Rail.{next_place, put_at, Prints}
 use Rattle.rail.specs.Steps.{Adds}

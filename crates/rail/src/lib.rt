@@ -1,6 +1,7 @@
 // The writing rail: bytes, words and digits put into a lent buffer where writing stands. Where there is no room, that is told and handed on, and the
 // buffer stays as it was. With `write` false the place moves alone, which measures what is due.
 #![tactic(auto)]
+
 ghost use Rattle.std.specs.Prelude.{◌≡◌, [], ◌∷◌};
 ghost use Rattle.print.specs.Print.{decimal_of, hex_of};
 ghost use Rattle.rail.specs.Words.{spaced};
