@@ -1,5 +1,6 @@
 // What a record is asked for: a label, as the part of the text that it names, or its angle. The record is judged by itself.
 #![tactic(auto)]
+
 ghost use Rattle.std.specs.Prelude.{◌≡◌};
 ghost use Rattle.record.specs.Entry.{LendsPart};
 ghost use Rattle.ask.specs.Ask.{label_of, label_from, angle_in, angle_of};
