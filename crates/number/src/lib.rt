@@ -1,5 +1,6 @@
 // Numbers and expressions at a place of a text, as the bits of an f64.
 #![tactic(auto)]
+
 ghost use Rattle.std.specs.Prelude.{◌≡◌, Bool, true, ℕ, ◌+◌, ◌-◌, ◌*◌, ◌^◌, ◌<◌, ◌≤◌};
 ghost use Rattle.decimal.specs.Decimal.{carried};
 ghost use Rattle.number.specs.Number.{is_digit, is_sign, is_point, is_exponent, is_word, step_over, capped, Run, Joined, exponent_cap, carried_by, exponent_at, capped_exponent, valued, scaled, no_number, number_at, number_on, closed, expr_at, expr_on};
