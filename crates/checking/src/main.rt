@@ -1,17 +1,21 @@
 // Prints whether the drawing of the page on standard input passes the check, after a whole reading. Of a longer input than a page
 // may be, no more is read than shows that.
 #![tactic(auto)]
-use answers::LONGEST;
-use libc::{STDIN_FILENO, STDOUT_FILENO};
-use rail::Place;
 
-fn main() {
-    let mut input = io::large_buffer();
-    let n = io::read_full(STDIN_FILENO, &mut input);
+use answers::LONGEST;
+use rail::Place;
+use std::io;
+use std::io::Write;
+
+// As many bytes as a page may have and one more.
+const MOST: usize = 65536;
+
+fn main(rt: HostRuntime) -> io::Result<()> {
+    let mut input = [0u8; MOST];
+    let n = stream::read_full(&mut rt.stdin(), &mut input)?;
     let mut out = [0u8; LONGEST];
     let Place::At(end) = answers::checking(&input[..n], &mut out) else {
-        io::write_all(STDOUT_FILENO, b"answer too long\n");
-        return;
+        return rt.stdout().write_all(b"answer too long\n");
     };
-    io::write_all(STDOUT_FILENO, &out[..end]);
+    rt.stdout().write_all(&out[..end])
 }
