@@ -1,5 +1,6 @@
 // The row of 44 bytes that a rule is lowered to: written to bytes, and read from them.
 #![tactic(auto)]
+
 pub mod formed;
 
 ghost use Rattle.std.specs.Prelude.{◌≡◌, ◌+◌, ◌<◌, length};
