@@ -2,10 +2,12 @@
 // byte: its bits and the place after it, `refused` with number and place, or `nothing`. A line of `root`, a blank and
 // sixteen hex digits is answered by the bits of the root of the number with these bits.
 #![tactic(auto)]
+
 ghost use Rattle.std.specs.Prelude.{◌≡◌, ◌≤◌, length};
 
 use batch::line::until;
-use libc::{STDIN_FILENO, STDOUT_FILENO};
+use std::io;
+use std::io::Write;
 use text::Stand;
 
 // The most bytes of input.
@@ -76,63 +78,64 @@ fn asked(line: &[u8]) -> Ask {
 }
 
 // Prints bytes.
-fn put(bytes: &[u8]) {
-    io::write_all(STDOUT_FILENO, bytes);
+fn put<W: Write>(out: &mut W, bytes: &[u8]) -> io::Result<()> {
+    out.write_all(bytes)
 }
 
 // Prints the sixteen hex digits of a number.
-fn put_hex(n: u64) {
+fn put_hex<W: Write>(out: &mut W, n: u64) -> io::Result<()> {
     let digits = print::hex(n);
-    put(&digits);
+    put(out, &digits)
 }
 
 // Prints the decimal digits of a number.
-fn put_decimal(n: u64) {
+fn put_decimal<W: Write>(out: &mut W, n: u64) -> io::Result<()> {
     let digits = print::decimal(n);
     let bytes = digits.bytes;
     let len = digits.len;
-    put(&bytes[..len]);
+    put(out, &bytes[..len])
 }
 
 // Prints what an expression gave.
-fn put_number(bits: u64, then: Stand) {
+fn put_number<W: Write>(out: &mut W, bits: u64, then: Stand) -> io::Result<()> {
     match then {
         Stand::At(next) => {
-            put_hex(bits);
-            put(b" ");
-            put_decimal(next as u64);
+            put_hex(out, bits)?;
+            put(out, b" ")?;
+            put_decimal(out, next as u64)
         }
-        Stand::Nothing => put(b"nothing"),
+        Stand::Nothing => put(out, b"nothing"),
         Stand::Refused(r) => {
-            put(b"refused ");
-            put_decimal(r.number as u64);
-            put(b" ");
-            put_decimal(r.place as u64);
+            put(out, b"refused ")?;
+            put_decimal(out, r.number as u64)?;
+            put(out, b" ")?;
+            put_decimal(out, r.place as u64)
         }
     }
 }
 
 // Prints the answer to a line.
-fn answer(line: &[u8]) {
+fn answer<W: Write>(out: &mut W, line: &[u8]) -> io::Result<()> {
     match asked(line) {
-        Ask::Root(bits) => put_hex(root::root_bits(bits)),
+        Ask::Root(bits) => put_hex(out, root::root_bits(bits))?,
         Ask::Expression => {
             let read = number::parse_number_expr(line, Stand::At(0));
             let then = read.then;
-            put_number(read.bits, then);
+            put_number(out, read.bits, then)?;
         }
     }
-    put(b"\n");
+    put(out, b"\n")
 }
 
 // Prints the answers to all lines.
-fn answer_all(text: &[u8]) {
+fn answer_all<W: Write>(out: &mut W, text: &[u8]) -> io::Result<()> {
     let mut at = 0;
     while at < text.len() {
         let end = until(text, at, b'\n');
-        answer(&text[at..end]);
+        answer(out, &text[at..end])?;
         at = end + 1;
     }
+    Ok(())
 }
 
 // Room for the input.
@@ -142,8 +145,8 @@ fn room() -> [u8; MOST]
     [0; MOST]
 }
 
-fn main() {
+fn main(rt: HostRuntime) -> io::Result<()> {
     let mut input = room();
-    let n = io::read_full(STDIN_FILENO, &mut input);
-    answer_all(&input[..n]);
+    let n = stream::read_full(&mut rt.stdin(), &mut input)?;
+    answer_all(&mut rt.stdout(), &input[..n])
 }
