@@ -2,7 +2,6 @@
 use mathlib.Core.Path.{◌≡◌, refl, sym, ◌∙◌}
 use mathlib.Core.Bool.{Bool, true, false, not, true≢false}
 use mathlib.Core.List.{List, [], ◌∷◌}
-use mathlib.Core.Logic.{inl, ⊎_elim}
 use Prim.Native.Nat.{ℕ, zero, suc}
 use native.Mathlib.Omega.{arith}
 use native.Mathlib.Decide.{dec_le}
@@ -11,8 +10,6 @@ use borrow.Author.Tests.{not-true}
 use lib.Dec.{eqb}
 use lib.ListN.{length, get_or, take, drop, drop_of_length-le}
 use lib.Seq.{drop-cons}
-use types.Run.{OneOf}
-use denote.Enum.Declared.{tag_of}
 use Rattle.ground.specs.Words.{bytes}
 use Rattle.ground.proofs.Lists.{and_first, and_second}
 use Rattle.refusal.specs.declared.Refusal.{Refusal}
@@ -20,7 +17,6 @@ use Rattle.text.specs.Text.{or_stand, is_space, run_to, word_at, word_on, ws_on,
 use Rattle.text.specs.declared.Stand.{Stand}
 use Rattle.text.specs.declared.Stand.TheVariants.{At, Nothing, Refused}
 use Rattle.text.specs.declared.ReadLabel.{ReadLabel}
-use Rattle.text.specs.contracts.Stand.{the_type}
 use Rattle.text.proofs.Laws.{run_to_stop, run_to_end}
 use Rattle.number.specs.Number.{number_on, expr_on}
 use Rattle.kinds.specs.Kinds.{new_point, new_circle, fix_component, fix_center, word_of}
@@ -112,17 +108,17 @@ by_declaration s stand = let at = ws_on s stand in rw (or_assoc (declare_on s at
 -- ---- where reading stands at no place
 
 -- a declaration hands on a stand that is no place, and the other forms read nothing where nothing was read
-pub forms_nowhere : (s : List ℕ) (t : Stand) → OneOf (1 ∷ 2 ∷ []) (tag_of the_type t) → no_line t ≡ or_line (declaration_on s t) (label_forms_on s t)
+pub forms_nowhere : (s : List ℕ) (t : Stand) → ((n : ℕ) → t ≡ At n → ⊥) → no_line t ≡ or_line (declaration_on s t) (label_forms_on s t)
 unfolding declare_on label_forms_on fixed_on assign_on first_of keyword_on either_on around_on pair_on more_on amount_on angle_on gap_on
     suffixed_on ws_on word_on byte_on label_on number_on expr_on
-forms_nowhere s (At n) h = absurd (⊎_elim (λ (e : 0 ≡ 1). omega arith) (λ (e : 0 ≡ 2). omega arith) h)
+forms_nowhere s (At n) h = absurd (h n refl)
 forms_nowhere s Nothing h = refl
 forms_nowhere s (Refused why) h = refl
 
 -- a line is none where nothing was read
 pub line_nowhere : (s : List ℕ) (guess : Bool) → line_on guess s Nothing ≡ no_line Nothing
 unfolding ws_on guess_on guessed_on pair_on suffixed_on label_on byte_on word_on number_on
-line_nowhere s false = by_declaration s Nothing ∙ sym (forms_nowhere s Nothing (inl refl))
+line_nowhere s false = by_declaration s Nothing ∙ sym (forms_nowhere s Nothing (λ n e. let c : ◌≡◌ {A = ℕ} 0 1 = cc in omega arith))
 line_nowhere s true = refl
 
 -- a refusal is handed on by a line

@@ -1,14 +1,11 @@
 -- Three things that every form keeps: reading stands at no place where it stood at none; it stands inside the text, and never goes back; and where
 -- nothing was read, nothing is read. Assumes nothing.
 use mathlib.Core.Path.{◌≡◌, refl}
-use mathlib.Core.List.{List, [], ◌∷◌}
+use mathlib.Core.List.{List, []}
 use Prim.Native.Nat.{ℕ}
-use types.Run.{OneOf}
-use denote.Enum.Declared.{tag_of}
 use Rattle.text.specs.Text.{due}
 use Rattle.text.specs.declared.Stand.{Stand}
-use Rattle.text.specs.declared.Stand.TheVariants.{Nothing}
-use Rattle.text.specs.contracts.Stand.{the_type}
+use Rattle.text.specs.declared.Stand.TheVariants.{At, Nothing}
 use Rattle.text.proofs.Laws.{handed, Reached, here, from_of, either_of}
 use Rattle.text.proofs.Within.{Within, within_of}
 use Rattle.record.specs.declared.Record.{Record}
@@ -50,5 +47,5 @@ kept_nothing s = kept_of refl (λ X then u rest read a f e. rw e f)
 
 -- ---- lines by their ends
 
-pub halted : (t : Stand) (rs : List Record) → OneOf (1 ∷ 2 ∷ []) (tag_of the_type t) → line_then rs t ≡ no_line t
+pub halted : (t : Stand) (rs : List Record) → ((n : ℕ) → t ≡ At n → ⊥) → line_then rs t ≡ no_line t
 halted t rs h = rw (← handed t [] (λ next. rs) h)

@@ -1,19 +1,15 @@
 -- The loop over the lines of a section: what is left to read, behind what has been stored. Assumes nothing.
 use mathlib.Core.Path.{◌≡◌, refl, sym, ◌∙◌}
-use mathlib.Core.Logic.{⊎_elim}
 use mathlib.Core.Bool.{Bool, true, false, cond}
 use mathlib.Core.List.{List, [], ◌∷◌}
 use Prim.Native.Nat.{ℕ, zero, suc, ◌+◌, ◌-◌, ◌*◌, ◌≤◌, ◌<◌}
 use native.Mathlib.Omega.{arith}
 use lib.ListN.{length, drop, length-append}
-use types.Run.{OneOf}
-use denote.Enum.Declared.{tag_of}
 use Rattle.text.specs.Text.{from, or_stand, refused_at, starts, word_at, byte_on, newline_on}
 use Rattle.text.specs.declared.Stand.{Stand}
 use Rattle.text.specs.declared.Stand.TheVariants.{At, Nothing, Refused}
 use Rattle.text.proofs.Laws.{handed, cond_of}
 use Rattle.record.specs.declared.Record.{Record}
-use Rattle.text.specs.contracts.Stand.{the_type}
 use Rattle.forms.specs.declared.Count.{Count}
 use Rattle.forms.specs.declared.pieces.Parsed.{Parsed}
 use Rattle.forms.specs.Forms.{Lines, no_line, line_on}
@@ -51,19 +47,19 @@ lines_left g s at number = go (line_on g s (At at)).then (λ next. followed_by (
     go (Refused why) read = refl
 
 -- where the first line is due at no place, there are no lines
-lines_nowhere : (g : Bool) (s : List ℕ) (t : Stand) (number : ℕ) → OneOf (1 ∷ 2 ∷ []) (tag_of the_type t) → lines_on g s t number ≡ no_line t
+lines_nowhere : (g : Bool) (s : List ℕ) (t : Stand) (number : ℕ) → ((n : ℕ) → t ≡ At n → ⊥) → lines_on g s t number ≡ no_line t
 unfolding lines_on
-lines_nowhere g s (At n) number h = absurd (⊎_elim (λ (e : 0 ≡ 1). omega arith) (λ (e : 0 ≡ 2). omega arith) h)
+lines_nowhere g s (At n) number h = absurd (h n refl)
 lines_nowhere g s Nothing number h = rw (line_nowhere s g)
 lines_nowhere g s (Refused why) number h = rw (line_refused s g why)
 
 -- where no new line stands behind a line, none is left
-none_left : (most : ℕ) (g : Bool) (s : List ℕ) (at : ℕ) → OneOf (1 ∷ 2 ∷ []) (tag_of the_type (newline_on s (At at))) → left_of most g s (newline_on s (At at)) (At at) ≡ no_line (At at)
+none_left : (most : ℕ) (g : Bool) (s : List ℕ) (at : ℕ) → ((i : ℕ) → newline_on s (At at) ≡ At i → ⊥) → left_of most g s (newline_on s (At at)) (At at) ≡ no_line (At at)
 unfolding left_of byte_on word_at
 none_left most g s at = go (starts (10 ∷ []) (drop at s)) most
   where
-    go : (t : Bool) (m : ℕ) → OneOf (1 ∷ 2 ∷ []) (tag_of the_type (cond t (At (at + 1)) Nothing)) → left_of m g s (cond t (At (at + 1)) Nothing) (At at) ≡ no_line (At at)
-    go true m h = absurd (⊎_elim (λ (e : 0 ≡ 1). omega arith) (λ (e : 0 ≡ 2). omega arith) h)
+    go : (t : Bool) (m : ℕ) → ((i : ℕ) → cond t (At (at + 1)) Nothing ≡ At i → ⊥) → left_of m g s (cond t (At (at + 1)) Nothing) (At at) ≡ no_line (At at)
+    go true m h = absurd (h (at + 1) refl)
     go false zero h = refl
     go false (suc m) h = rw (line_nowhere s g)
 
@@ -78,7 +74,7 @@ more_read : {d d' : List ℕ} {n : ℕ} {x : Count} (rs : List Record) (l : Line
 more_read {d} {n = n} rs l r =
     record { count_is = omega (arith, r.count_is, length-append rs l.records); then_is = r.then_is; buffer = r.buffer ∙ sym (stored_append d n rs l.records) }
 
-pub nowhere : (g : Bool) (s d : List ℕ) (n : ℕ) (t : Stand) (number : ℕ) → OneOf (1 ∷ 2 ∷ []) (tag_of the_type t)
+pub nowhere : (g : Bool) (s d : List ℕ) (n : ℕ) (t : Stand) (number : ℕ) → ((n : ℕ) → t ≡ At n → ⊥)
     → SectionRead d n (lines_on g s t number) (record { count = n; then = t }) d
 nowhere g s d n t number h = rw (lines_nowhere g s t number h) (none_read d n t)
 
@@ -113,11 +109,11 @@ module _ {g : Bool} {s d₀ : List ℕ} {start : ℕ} {all : Lines} {d : List �
         }
 
     -- no new line stands behind it
-    pub last : (next : ℕ) → line.then ≡ At next → OneOf (1 ∷ 2 ∷ []) (tag_of the_type (newline_on s (At next)))
+    pub last : (next : ℕ) → line.then ≡ At next → ((i : ℕ) → newline_on s (At next) ≡ At i → ⊥)
         → SectionRead d₀ start all (record { count = n + length (records_of line); then = At next }) (stored d n (records_of line))
     last next e o = (turn next e).rest (rw (none_left (suc (length s) - (k + 1)) g s next o) (none_read _ _ _))
 
-    pub halt : OneOf (1 ∷ 2 ∷ []) (tag_of the_type line.then) → SectionRead d₀ start all (record { count = n; then = or_stand line.then line.then other }) d
+    pub halt : ((i : ℕ) → line.then ≡ At i → ⊥) → SectionRead d₀ start all (record { count = n; then = or_stand line.then line.then other }) d
     halt o = l.rest (rw (line_left, ← handed line.then (no_line (or_stand line.then line.then other)) _ o) (none_read _ _ _))
 
   pub over : length s < k → SectionRead d₀ start all (record { count = n; then = other }) d

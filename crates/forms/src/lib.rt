@@ -1,5 +1,6 @@
 // The forms of a page's lines: one line at a place of any text, and the lines of a section, whose records are put into a buffer.
 #![tactic(auto)]
+
 mod declarations;
 mod keywords;
 mod labels;

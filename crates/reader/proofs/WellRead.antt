@@ -14,7 +14,6 @@ use Rattle.text.specs.declared.Stand.TheVariants.{At}
 use Rattle.record.specs.Record.{record_bytes, most_records, longest_text, first_guess, encode_all}
 use Rattle.record.specs.Decode.{decode, count_of, record_of, decode_at, no_record}
 use Rattle.record.specs.Entry.{no_entry, entry_of}
-use Rattle.record.specs.Sound.{Good}
 use Rattle.record.specs.Formed.{WellFormed, entries, Malformed, places}
 use Rattle.record.proofs.Back.{record_of_all, count_all}
 use Rattle.record.proofs.Entries.{whole_length}

@@ -1,5 +1,6 @@
 // Reading a page: its lines, its records, and the place where reading stops.
 #![tactic(auto)]
+
 mod page;
 
 ghost use Rattle.std.specs.Prelude.{true, false};
