@@ -1,5 +1,6 @@
 // The added check of a drawing: 30, then the other faults in their order, by the drawing's names.
 #![tactic(auto)]
+
 mod faults;
 
 ghost use Rattle.std.specs.Prelude.{◌≡◌, cond, ◌≤◌};

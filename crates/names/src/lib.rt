@@ -2,6 +2,7 @@
 // part of each declaration the lowest record that guesses it. Behind 30, check and lowering go by these
 // numbers, and look at no text.
 #![tactic(auto)]
+
 mod chains;
 pub mod labels;
 mod pieces;
