@@ -1,5 +1,5 @@
 -- Names do not matter (docs/FORMAT.md, "Lowering"): "Take two drawings that the check passes, with the same number of records, equal in all record
--- fields but labels, and a one_to_one renaming of declared shapes under which each label of the first becomes that of the second, the part after a
+-- fields but labels, and a one-to-one renaming of declared shapes under which each label of the first becomes that of the second, the part after a
 -- dot kept. Lowered from equal counters with enough room they give the same rows, ids and starting values, byte for byte."
 use Rattle.std.specs.Prelude.{◌≡◌, ◌↔◌, List, ◌++◌, map, ℕ, ◌*◌, length, take, Float}
 use Rattle.refusal.specs.First.{SomeBelow, EachBelow}
@@ -23,7 +23,7 @@ use Rattle.lowering.specs.Demand.{Enough}
 abbrev pub Passes : List Entry → Type 0
 Passes es = (P : ℕ) × (C : ℕ) × (A : ℕ) × (R : ℕ) × (checked_of es ≡ checked.Passed P C A R)
 
--- ---- a one_to_one renaming of declared shapes
+-- ---- a one-to-one renaming of declared shapes
 
 -- l is the label of a declared shape
 abbrev pub Declared : List Entry → Label → Type 0
@@ -88,7 +88,7 @@ NamesDoNotMatter =
 
 -- ---- what holds beside it
 
--- that the renaming is one_to_one follows from the rest
+-- that the renaming is one-to-one follows from the rest
 abbrev pub NeverTwoToOne : Type 0
 NeverTwoToOne = (es es' : List Entry) → Passes es → Passes es' → (becomes : Label → Label) → Renamed becomes es es' → OneToOne becomes es
 

@@ -8,7 +8,7 @@ plus_zero = 0
 abbrev pub minus_zero : ℕ
 minus_zero = 0x8000_0000_0000_0000
 
--- infinity, with either sign; between plus_zero and infinity lie the finite numbers above zero
+-- infinity, with either sign; between plus-zero and infinity lie the finite numbers above zero
 abbrev pub infinity : ℕ
 infinity = 0x7ff0_0000_0000_0000
 
