@@ -1,6 +1,7 @@
 // The whole answer to a page, written at the start of a lent buffer: its listing, whether its drawing passes the check, or its slots
 // and rows. A buffer without room for the answer stays as it was.
 #![tactic(auto)]
+
 mod drawn;
 mod listed;
 

@@ -43,6 +43,7 @@ fn points_by(points: usize, stage: usize) -> usize
 }
 
 // The layout with these counts at this stage.
+#[tactic(auto, unfolding(crate::specs::Given::layout_by))]
 fn layout_by(points: usize, circles: usize, arcs: usize, stage: usize) -> Layout
     ensures { result ≡ layout_by points circles arcs stage }
 {

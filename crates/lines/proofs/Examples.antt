@@ -6,7 +6,7 @@ use lib.Ieee.{binary64, of_bits, to_bits}
 use Rattle.refusal.specs.Refusal.{refusal}
 use Rattle.print.specs.Print.{last_digits, hex_of, width_up_to, decimal_of}
 use Rattle.record.specs.Entry.{entry_with}
-use Rattle.reader.specs.declared.Reading.TheVariants.{Good, Refused}
+use Rattle.reader.specs.declared.Reading.TheVariants.{Refused}
 use Rattle.layout.specs.declared.Stage.TheVariants.{Done}
 use Rattle.drawing.specs.declared.Checked.TheVariants as C
 use Rattle.lowering.specs.declared.Lowered.TheVariants as L

@@ -1,5 +1,5 @@
 -- The lines that tell of a drawing: whether it passes the check, and what lowering makes of it, a line for each slot and each row.
-use Rattle.std.specs.Prelude.{List, [], ◌∷◌, ◌++◌, map, ℕ, ◌+◌, Float}
+use Rattle.std.specs.Prelude.{List, [], ◌∷◌, ◌++◌, map, ℕ, Float}
 use Rattle.std.specs.Float.{binary64}
 use Rattle.std.specs.Float.Ieee.{to_bits}
 use Rattle.ground.specs.Words.{bytes}

@@ -1,6 +1,7 @@
 // The lines that programs print, written into a lent buffer where writing stands: those of a listing, of a check and of a lowering.
 // With `write` false a line is measured alone.
 #![tactic(auto)]
+
 mod drawn;
 mod words;
 

@@ -44,7 +44,7 @@ module _ (es : List Entry) where
 
   pub line_at_lem : (i : ℕ) → line_at (sketch es) i ≡ line_for es (entry_at es i)
   unfolding sketch
-  line_at_lem i = ListN.get_d_map (line_for es) es i no_entry
+  line_at_lem i = ListN.get_or-map (line_for es) es i no_entry
 
   kinds_are : kind_in (sketch es) ≡ kind_no es
   kinds_are j i = (line_at_lem i j).kind

@@ -1,5 +1,6 @@
 // Lowering: a drawing that passes the check becomes slots with ids and starting values, and a row for each rule.
 #![tactic(auto)]
+
 mod rules;
 mod shapes;
 mod spans;

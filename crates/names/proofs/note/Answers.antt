@@ -1,98 +1,69 @@
 -- `names::note` meets its contract: the table holds the lowest of the records from i on that guess each part. The measure is how many are
 -- left. Assumes nothing.
 use mathlib.Core.Path.{◌≡◌, ap}
-use Prim.Native.Nat.{◌+◌, ◌-◌, ◌*◌, ◌<◌}
+use mathlib.Core.Bool.{true, ◌&&◌}
+use mathlib.Core.List.{List}
+use Prim.Native.Nat.{ℕ, ◌≤◌, ◌+◌, ◌-◌, ◌<◌}
 use native.Mathlib.Omega.{arith}
 use lib.Dec.{leb}
+use lib.ListN.{get_or}
 use Rattle.ground.proofs.Lists.{and_second}
-use Rattle.kinds.specs.Kinds.{pair_guess, label_places}
-use Rattle.record.specs.Record.{most_records}
+use Rattle.kinds.specs.Kinds.{pair_guess}
 use Rattle.record.specs.Decode.{count_of}
-use Rattle.names.specs.Names.{place_by, guess_places}
-use Rattle.names.specs.Steps.{NotedFrom}
+use Rattle.names.specs.Names.{place_by, guess_places, tells_part}
+use Rattle.names.specs.Steps.{Inside, NotedFrom}
 use Rattle.names.proofs.First.{firsts_none}
 use Rattle.names.proofs.Names.{says_tells}
 use Rattle.names.proofs.Tables.{noted_out, noted_in}
 use Rattle.names.proofs.note.Goals as goal
 
+-- record i - 1 is there, with the table so far
+so_far : (records names guesses : List ℕ) (i : ℕ) → 0 < i → (i ≤ count_of records) × NotedFrom records names i guesses
+    → (i - 1 < count_of records) × NotedFrom records names (i - 1 + 1) guesses
+so_far records names guesses i some f = let e : i ≡ i - 1 + 1 = omega (arith, some) in (omega (arith, some, f.0), rw e at f.1)
+
+-- the place of a guess is in the table
+place_inside : (names : List ℕ) (at kind name : ℕ) → Inside names → name ≡ get_or names at 0 → (leb pair_guess kind && tells_part name) ≡ true → place_by name < guess_places
+place_inside names at kind name f e t = omega (arith, e, f at, ((says_tells name).so (and_second (leb pair_guess kind) _ t)).1)
+
 pub loop-i-init : goal.loop-i-init
 loop-i-init c = (omega arith, firsts_none _ _ _ _ _ (omega arith) c.requires.2)
 
 pub overflow_mul-i : goal.overflow_mul-i
-overflow_mul-i c =
-    let so_far : let a = c.args in let j = c.loop-i.i - 1 in
-    (j < count_of a.records.now) × (j < most_records) × NotedFrom a.records.now a.names.now (j + 1) c.loop-i.guesses = let l = c.loop-i in let e : l.i ≡ l.i - 1 + 1 = omega arith in
-    (omega arith, omega (arith, c.requires.0), rw e at l.invariant.1) in
-    omega (arith, (so_far).1)
+overflow_mul-i c = omega (arith, c.requires.0)
 
 pub offset_bounds-names-i : goal.offset_bounds-names-i
-offset_bounds-names-i c =
-    let so_far : let a = c.args in let j = c.loop-i.i - 1 in
-    (j < count_of a.records.now) × (j < most_records) × NotedFrom a.records.now a.names.now (j + 1) c.loop-i.guesses = let l = c.loop-i in let e : l.i ≡ l.i - 1 + 1 = omega arith in
-    (omega arith, omega (arith, c.requires.0), rw e at l.invariant.1) in
-    omega (arith, (so_far).1)
+offset_bounds-names-i c = omega (arith, c.requires.0)
 
 pub bounds-names-i : goal.bounds-names-i
-bounds-names-i c =
-    let so_far : let a = c.args in let j = c.loop-i.i - 1 in
-    (j < count_of a.records.now) × (j < most_records) × NotedFrom a.records.now a.names.now (j + 1) c.loop-i.guesses = let l = c.loop-i in let e : l.i ≡ l.i - 1 + 1 = omega arith in
-    (omega arith, omega (arith, c.requires.0), rw e at l.invariant.1) in
-    omega (arith, (so_far).1)
+bounds-names-i c = omega (arith, c.requires.0)
 
 pub kind_of-requires : goal.kind_of-requires
-kind_of-requires c =
-    let so_far : let a = c.args in let j = c.loop-i.i - 1 in
-    (j < count_of a.records.now) × (j < most_records) × NotedFrom a.records.now a.names.now (j + 1) c.loop-i.guesses = let l = c.loop-i in let e : l.i ≡ l.i - 1 + 1 = omega arith in
-    (omega arith, omega (arith, c.requires.0), rw e at l.invariant.1) in
-    (so_far).0
+kind_of-requires c = omega arith
 
 pub overflow_cast-guesses : goal.overflow_cast-guesses
-overflow_cast-guesses c =
-    let so_far : let a = c.args in let j = c.loop-i.i - 1 in
-    (j < count_of a.records.now) × (j < most_records) × NotedFrom a.records.now a.names.now (j + 1) c.loop-i.guesses = let l = c.loop-i in let e : l.i ≡ l.i - 1 + 1 = omega arith in
-    (omega arith, omega (arith, c.requires.0), rw e at l.invariant.1) in
-    omega (arith, (so_far).1)
+overflow_cast-guesses c = omega (arith, c.requires.0)
 
 pub overflow_mul-guesses : goal.overflow_mul-guesses
-overflow_mul-guesses c =
-    let place_inside : place_by c.wide-name.result < guess_places = let inside = c.requires.1 ((c.loop-i.i - 1) * label_places) in
-    omega (arith, c.wide-name.ensures, inside, ((says_tells c.wide-name.result).so (and_second (leb pair_guess c.kind_of.result) _ c.if-kind_of-name.true)).1) in
-    omega (arith, place_inside)
+overflow_mul-guesses c = omega (arith, place_inside _ _ _ _ c.requires.1 c.wide-name.ensures c.if-kind_of-name.true)
 
 pub overflow_add-guesses : goal.overflow_add-guesses
-overflow_add-guesses c =
-    let place_inside : place_by c.wide-name.result < guess_places = let inside = c.requires.1 ((c.loop-i.i - 1) * label_places) in
-    omega (arith, c.wide-name.ensures, inside, ((says_tells c.wide-name.result).so (and_second (leb pair_guess c.kind_of.result) _ c.if-kind_of-name.true)).1) in
-    omega (arith, place_inside)
+overflow_add-guesses c = omega (arith, place_inside _ _ _ _ c.requires.1 c.wide-name.ensures c.if-kind_of-name.true)
 
 pub offset_bounds-guesses-name : goal.offset_bounds-guesses-name
-offset_bounds-guesses-name c =
-    let place_inside : place_by c.wide-name.result < guess_places = let inside = c.requires.1 ((c.loop-i.i - 1) * label_places) in
-    omega (arith, c.wide-name.ensures, inside, ((says_tells c.wide-name.result).so (and_second (leb pair_guess c.kind_of.result) _ c.if-kind_of-name.true)).1) in
-    omega (arith, place_inside)
+offset_bounds-guesses-name c = omega (arith, place_inside _ _ _ _ c.requires.1 c.wide-name.ensures c.if-kind_of-name.true)
 
 pub bounds-guesses-name : goal.bounds-guesses-name
-bounds-guesses-name c =
-    let place_inside : place_by c.wide-name.result < guess_places = let inside = c.requires.1 ((c.loop-i.i - 1) * label_places) in
-    omega (arith, c.wide-name.ensures, inside, ((says_tells c.wide-name.result).so (and_second (leb pair_guess c.kind_of.result) _ c.if-kind_of-name.true)).1) in
-    place_inside
+bounds-guesses-name c = place_inside _ _ _ _ c.requires.1 c.wide-name.ensures c.if-kind_of-name.true
 
 pub loop-i-preserved-then-kind_of-name : goal.loop-i-preserved-then-kind_of-name
 loop-i-preserved-then-kind_of-name c =
-    let so_far : let a = c.args in let j = c.loop-i.i - 1 in
-    (j < count_of a.records.now) × (j < most_records) × NotedFrom a.records.now a.names.now (j + 1) c.loop-i.guesses = let l = c.loop-i in let e : l.i ≡ l.i - 1 + 1 = omega arith in
-    (omega arith, omega (arith, c.requires.0), rw e at l.invariant.1) in
-    let place_inside : place_by c.wide-name.result < guess_places = let inside = c.requires.1 ((c.loop-i.i - 1) * label_places) in
-    omega (arith, c.wide-name.ensures, inside, ((says_tells c.wide-name.result).so (and_second (leb pair_guess c.kind_of.result) _ c.if-kind_of-name.true)).1) in
-    let (there, few, so) = so_far in
-    (omega arith, noted_in _ _ _ _ there so _ (ap place_by c.wide-name.ensures) (rw (c.kind_of.ensures, c.wide-name.ensures) at c.if-kind_of-name.true) (place_inside))
+    let (there, so) = so_far _ _ _ _ c.loop-i-test.true c.loop-i.invariant in
+    (omega arith, noted_in _ _ _ _ there so _ (ap place_by c.wide-name.ensures) (rw (c.kind_of.ensures, c.wide-name.ensures) at c.if-kind_of-name.true) (place_inside _ _ _ _ c.requires.1 c.wide-name.ensures c.if-kind_of-name.true))
 
 pub loop-i-preserved : goal.loop-i-preserved
 loop-i-preserved c =
-    let so_far : let a = c.args in let j = c.loop-i.i - 1 in
-    (j < count_of a.records.now) × (j < most_records) × NotedFrom a.records.now a.names.now (j + 1) c.loop-i.guesses = let l = c.loop-i in let e : l.i ≡ l.i - 1 + 1 = omega arith in
-    (omega arith, omega (arith, c.requires.0), rw e at l.invariant.1) in
-    let (there, few, so) = so_far in
+    let (there, so) = so_far _ _ _ _ c.loop-i-test.true c.loop-i.invariant in
     (omega arith, noted_out _ _ _ _ there so (rw (c.kind_of.ensures, c.wide-name.ensures) at c.if-kind_of-name.false))
 
 pub returns : goal.returns

@@ -1,4 +1,5 @@
 -- `drawing::faults::meets` meets its contract: each code is asked for the sorts of its choices. Assumes nothing.
+use borrow.Author.Rules.{rules}
 use mathlib.Core.Bool.{or-false}
 use Rattle.drawing.proofs.Ranks.{by_code, no_code}
 use Rattle.drawing.proofs.faults.meets.Goals as goal
@@ -25,4 +26,4 @@ pub returns-in-7 : goal.returns-in-7
 returns-in-7 c = by_code _ _ _ _ c.in-7.is (simp or-false)
 
 pub returns-in_default : goal.returns-in_default
-returns-in_default c = no_code _ _ c.in_default.in_default-own.rest
+returns-in_default c = no_code c.args.code _ (search rules)

@@ -18,4 +18,4 @@ returns-in-3 c =
     (rw (c.guess_in-in-3.ensures, c.guess_in-in-3-2.ensures, c.guess_in-in-3-3.ensures) (simp or-false))
 
 pub returns-in_default : goal.returns-in_default
-returns-in_default c = let r = c.in_default.in_default-own.rest in no_part _ _ _ _ (λ d. omega (arith, d, r.0.0.1, r.0.1, r.1))
+returns-in_default c = no_part _ _ _ _ (λ d. omega (arith, d))

@@ -1,9 +1,0 @@
--- `answers::listing` meets its contract: it is the answer to one way of asking. Assumes nothing.
-use borrow.Author.Rules.{rules}
-use Rattle.answers.specs.Answers.{answer_of}
-use Rattle.answers.proofs.listing.Statement.{statement}
-use Rattle.answers.proofs.listing.Tie as tie
-
-pub listing-spec : {M : Type 1} → statement M
-unfolding answer_of
-listing-spec = tie.close (tie.spec (λ c κs. search rules) (λ c. search rules) (λ c. c.before.before.answer.ensures))

@@ -1,8 +1,0 @@
--- `bridge::laid::point_told` meets its contract: by the variant of the answer. Assumes nothing.
-use borrow.Author.Rules.{rules}
-use Rattle.bridge.proofs.laid.point_told.Statement.{statement}
-use Rattle.bridge.proofs.laid.point_told.Tie as tie
-
-pub point-told-spec : {M : Type 1} → statement M
-point-told-spec = tie.close (tie.spec (λ c. search rules) (λ c κs. search rules) (λ c κs. search rules) (λ c κs. search rules) (λ c. search rules) (λ c κs. search rules)
-    (λ c. rw (c.before.before.before.before.r.given.1, ← c.before.before.to-bits.ensures, ← c.before.to-bits2.ensures, ← c.good2.ensures)) (λ c. rw (c.before.before.r2.given.1, ← c.refused.ensures)))

@@ -1,0 +1,13 @@
+-- `lines::drawn::slot` meets its contract: its words are added one after the other. Assumes nothing.
+use Rattle.ground.specs.Words.{bytes}
+use Rattle.rail.proofs.Added.{added, both}
+use Rattle.lines.proofs.Spaced.{words_more}
+use Rattle.lines.specs.Drawn.{slot_line}
+use Rattle.lines.proofs.drawn.slot.Goals as goal
+
+pub returns : goal.returns
+unfolding slot_line
+returns c =
+    rw (← c.to_bits.ensures)
+    (both (words_more (bytes "slot") _ _ (both (added c.add-p.ensures) (added c.decimal_word-p.ensures))
+    (added c.hex_word-p.ensures)) (added c.add.ensures))

@@ -1,0 +1,9 @@
+-- `lines::drawn::tally_line` meets its contract: its words are added one after the other. Assumes nothing.
+use Rattle.rail.proofs.Added.{added, both}
+use Rattle.lines.proofs.Spaced.{words_more}
+use Rattle.lines.proofs.drawn.tally_line.Goals as goal
+
+pub returns : goal.returns
+returns c =
+    let l = c.args.name.now in let two = words_more l _ _ (both (added c.add-p.ensures) c.counted-p.ensures) c.counted-p-2.ensures in
+    both (words_more l _ _ (words_more l _ _ two c.counted-p-3.ensures) c.counted-p-4.ensures) (added c.add.ensures)
