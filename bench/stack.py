@@ -7,6 +7,9 @@ import sys
 # An expression holds at most eight roots, so its reader is at most nine deep.
 DEPTH = 9
 
+# A function's name in assembly.
+SYMBOL = r'"[^"]+"|[\w.$]+'
+
 # What a function that calls no other may use below its frame.
 RED = 128
 
@@ -39,13 +42,13 @@ def calls(path, frames):
     """Which functions each function calls or ends in."""
     out, at = {}, None
     for line in open(path):
-        m = re.match(r'"?([\w:]+)"?:', line)
-        if m and m[1] in frames:
-            at = m[1]
+        m = re.match(r"(%s):" % SYMBOL, line)
+        if m and m[1].strip('"') in frames:
+            at = m[1].strip('"')
             out[at] = set()
-        m = re.match(r'\s+(?:call|j)\w*\s+"?([\w:]+)"?(?:@PLT)?\s*$', line)
-        if m and at and m[1] in frames:
-            out[at].add(m[1])
+        m = re.match(r"\s+(?:call|j)\w*\s+(%s)(?:@PLT)?\s*$" % SYMBOL, line)
+        if m and at and m[1].strip('"') in frames:
+            out[at].add(m[1].strip('"'))
     return out
 
 

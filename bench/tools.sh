@@ -2,15 +2,15 @@
 # packages that are fetched and unpacked to one folder, with no change to the system.
 #
 #   COUNTER=here      the machine's own rustc and valgrind (callgrind); taken on x86_64 where both are there
-#   COUNTER=qemu      rustc and qemu-x86_64 out of packages, with insncount.c as a plugin; else taken. On aarch64 too
+#   COUNTER=qemu      rustc and qemu-x86_64 out of packages, with insncount.c as a plugin; else taken
 #   BENCH_TOOLS=DIR   where the packages are kept between runs (about 900 MB); unset: a temporary folder
 #
 # For qemu: apt of Debian bookworm with its security archive (no root), dpkg-deb, and the kit, whose clang compiles the plugin and links.
 here=$(cd "$(dirname "$0")" && pwd)
 scratch=$(mktemp -d)
 trap 'rm -rf "$scratch"' EXIT
-kit=${RATTLE_HOME:-$(dirname "$(dirname "$(rt doc)")")}
-llvm=$kit/on/$(uname -m)/toolchain/bin
+kit=$(dirname "$(rt doc)")
+llvm=$kit/toolchain/bin
 case $(uname -m) in
 aarch64) host=arm64 triple=aarch64-linux-gnu ;;
 *) host=amd64 triple=x86_64-linux-gnu ;;

@@ -1,5 +1,5 @@
-//! Links `libbridge.a`, from the folder that HUNPOSETO_LIB names, else from the repository's target/staticlib. The tests are told
-//! this folder, and whether what they build runs on the machine itself.
+//! Links `libbridge.a`, the archive of the crate `bridge_c`, from the folder that HUNPOSETO_LIB names, else from the repository's
+//! target/staticlib, where rust/test puts it. The tests are told this folder, and whether what they build runs on the machine itself.
 use std::env::var;
 
 fn main() {

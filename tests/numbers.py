@@ -4,7 +4,7 @@
   numbers.py INPUT OUTPUT         write the lines and their answers, the same bytes every time
   numbers.py --check              hold the answers against float() and math.sqrt, the list against its limits, and the products
                                   of ten against the powers
-  numbers.py --hold NUMBERS COUNT hold the program NUMBERS, such as target/bin/numbers, against so many other numbers,
+  numbers.py --hold NUMBERS COUNT hold the program NUMBERS, such as crates/numbers/out/numbers, against so many other numbers,
                                   every k from -22 to 22 among them; the exit status is 1 where one differs
 
 A line is read from its first byte as an expression: a number, or sqrt( expression ), at most eight deep. Its answer is

@@ -2,7 +2,7 @@
 """Looks for powers of ten among the constants of compiled code: request 4 wants none but ten itself.
 
   powers.py FILE...   FILE is a library or an object of x86-64, such as target/staticlib/libbridge.a, which
-                      `rt staticlib bridge` writes; prints its sections, and every power with its place
+                      `rust/test` writes; prints its sections, and every power with its place
   powers.py --check   hold the search against bytes with and without powers
 
 Looked at is every byte that is loaded: constants, data, and code with the numbers inside its instructions. Told are the

@@ -1,4 +1,4 @@
-/* The proved reader, check, lowering and layout as C functions: the exports of the crate `bridge`.
+/* The proved reader, check, lowering and layout as C functions: the exports of the crate `bridge_c`.
  *
  * A slice is an address and a count of elements; an address is never null, also where the count is 0. What is lent for
  * writing may not overlap anything else that is lent to the same call. Nothing lent is kept.
