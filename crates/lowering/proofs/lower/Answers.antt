@@ -1,43 +1,30 @@
 -- `lowering::lower` meets its contract: by what the check tells, and by what is lacking. Assumes nothing.
-use mathlib.Core.Path.{◌≡◌, sym, ◌∙◌}
+use mathlib.Core.Path.{sym, ◌∙◌}
 use native.Mathlib.Omega.{arith}
-use Rattle.record.specs.Formed.{entries}
-use Rattle.drawing.specs.Check.{checked_of}
 use Rattle.lowering.proofs.answer.Ends.{refused_ends, few_counted, lacking_ends, enough}
 use Rattle.lowering.proofs.answer.Handed.{told, fill_asks, fill_gives}
 use Rattle.lowering.proofs.lower.Goals as goal
 
 pub slots_of-slots-requires : goal.slots_of-slots-requires
-slots_of-slots-requires c =
-    let answer : c.judge-checked.result ≡ checked_of (entries c.args.text.now c.args.records.now) = told _ _ _ _ c.resolve-resolved.ensures c.judge-checked.ensures in
-    few_counted _ _ (answer) c.in-Passed.is
+slots_of-slots-requires c = few_counted _ _ (told _ _ _ _ c.resolve-resolved.ensures c.judge-checked.ensures) c.in-Passed.is
 
 pub returns-then-told-ne0 : goal.returns-then-told-ne0
-returns-then-told-ne0 c =
-    let answer : c.judge-checked.result ≡ checked_of (entries c.args.text.now c.args.records.now) = told _ _ _ _ c.resolve-resolved.ensures c.judge-checked.ensures in
-    lacking_ends _ _ (answer) c.in-Passed.is _ _ _ _ c.slots_of-slots.ensures c.lack-told.ensures c.if-told-ne0.true
+returns-then-told-ne0 c = lacking_ends _ _ (told _ _ _ _ c.resolve-resolved.ensures c.judge-checked.ensures) c.in-Passed.is _ _ _ _ c.slots_of-slots.ensures c.lack-told.ensures c.if-told-ne0.true
 
 pub fill-layout-requires : goal.fill-layout-requires
 fill-layout-requires c =
     let a = c.args in fill_asks _ _ _ _ c.resolve-resolved.ensures c.judge-checked.ensures c.in-Passed.is a.next a.ids.now a.values.now a.rows.now c.slots_of-slots.ensures c.lack-told.ensures
     c.if-told-ne0.false
 
-pub overflow_cast-result : goal.overflow_cast-result
-overflow_cast-result c =
-    let answer : c.judge-checked.result ≡ checked_of (entries c.args.text.now c.args.records.now) = told _ _ _ _ c.resolve-resolved.ensures c.judge-checked.ensures in
-    let a = c.args in let e = enough _ _ (answer) c.in-Passed.is _ a.ids.now a.values.now a.rows.now c.slots_of-slots.ensures c.lack-told.ensures c.if-told-ne0.false in
-    omega (arith, e.ids_left)
-
 pub overflow_add-result : goal.overflow_add-result
 overflow_add-result c =
-    let answer : c.judge-checked.result ≡ checked_of (entries c.args.text.now c.args.records.now) = told _ _ _ _ c.resolve-resolved.ensures c.judge-checked.ensures in
-    let a = c.args in let e = enough _ _ (answer) c.in-Passed.is _ a.ids.now a.values.now a.rows.now c.slots_of-slots.ensures c.lack-told.ensures c.if-told-ne0.false in
+    let a = c.args in
+    let judged = told _ _ _ _ c.resolve-resolved.ensures c.judge-checked.ensures in
+    let e = enough _ _ judged c.in-Passed.is _ a.ids.now a.values.now a.rows.now c.slots_of-slots.ensures c.lack-told.ensures c.if-told-ne0.false in
     omega (arith, e.ids_left)
 
 pub returns-in-Refused : goal.returns-in-Refused
-returns-in-Refused c =
-    let answer : c.judge-checked.result ≡ checked_of (entries c.args.text.now c.args.records.now) = told _ _ _ _ c.resolve-resolved.ensures c.judge-checked.ensures in
-    refused_ends _ _ _ _ _ _ (sym (answer) ∙ c.in-Refused.is)
+returns-in-Refused c = refused_ends _ _ _ _ _ _ (sym (told _ _ _ _ c.resolve-resolved.ensures c.judge-checked.ensures) ∙ c.in-Refused.is)
 
 pub returns-else-told-ne0 : goal.returns-else-told-ne0
 returns-else-told-ne0 c =

@@ -6,41 +6,11 @@ use Rattle.row.specs.Row.{most_ids}
 use Rattle.lowering.specs.Steps.{first_at, Placeable}
 use Rattle.lowering.proofs.rules.add_name.Goals as goal
 
-pub offset_bounds-firsts-shape : goal.offset_bounds-firsts-shape
-offset_bounds-firsts-shape c =
-    let placeable : Placeable (first_at c.args.firsts.now) c.args.next c.span_of-s.result = rw c.span_of-s.ensures c.requires.1 in
-    omega (arith, (placeable).inside)
-
-pub bounds-firsts-shape : goal.bounds-firsts-shape
-bounds-firsts-shape c =
-    let placeable : Placeable (first_at c.args.firsts.now) c.args.next c.span_of-s.result = rw c.span_of-s.ensures c.requires.1 in
-    omega (arith, (placeable).inside)
-
-pub overflow_cast-id : goal.overflow_cast-id
-overflow_cast-id c =
-    let placeable : Placeable (first_at c.args.firsts.now) c.args.next c.span_of-s.result = rw c.span_of-s.ensures c.requires.1 in
-    omega (arith, (placeable).fits)
-
-pub overflow_cast-id-2 : goal.overflow_cast-id-2
-overflow_cast-id-2 c =
-    let placeable : Placeable (first_at c.args.firsts.now) c.args.next c.span_of-s.result = rw c.span_of-s.ensures c.requires.1 in
-    omega (arith, (placeable).fits)
-
-pub overflow_add-id : goal.overflow_add-id
-overflow_add-id c =
-    let placeable : Placeable (first_at c.args.firsts.now) c.args.next c.span_of-s.result = rw c.span_of-s.ensures c.requires.1 in
-    omega (arith, (placeable).fits)
-
-pub overflow_add-id-2 : goal.overflow_add-id-2
-overflow_add-id-2 c =
-    let placeable : Placeable (first_at c.args.firsts.now) c.args.next c.span_of-s.result = rw c.span_of-s.ensures c.requires.1 in
-    omega (arith, (placeable).fits)
-
 pub append-requires : goal.append-requires
 append-requires c =
     let placeable : Placeable (first_at c.args.firsts.now) c.args.next c.span_of-s.result = rw c.span_of-s.ensures c.requires.1 in
     let room : c.args.m + c.span_of-s.result.count ≤ most_ids = rw (← c.span_of-s.ensures, length_onward) at c.requires.2 in
-    (c.requires.0, room, omega (arith, (placeable).fits))
+    (c.requires.0, room, omega (arith, placeable.fits))
 
 pub returns : goal.returns
 returns c = rw (← c.span_of-s.ensures) c.append.ensures

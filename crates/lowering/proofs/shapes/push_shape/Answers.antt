@@ -10,4 +10,4 @@ pub returns-in-2 : goal.returns-in-2
 returns-in-2 c = rw (ne_eqb c.args.kind 1 (λ e. omega arith), eq-eqb c.args.kind 2 (omega arith)) (rw c.circle_of.ensures at c.push_circle.ensures)
 
 pub returns-in_default : goal.returns-in_default
-returns-in_default c = let m = c.in_default.in_default-own.rest in rw (ne_eqb c.args.kind 1 m.0.1, ne_eqb c.args.kind 2 m.1) (rw c.arc_of.ensures at c.push_arc.ensures)
+returns-in_default c = rw (ne_eqb c.args.kind 1 (λ e. omega arith), ne_eqb c.args.kind 2 (λ e. omega arith)) (rw c.arc_of.ensures at c.push_arc.ensures)

@@ -24,11 +24,6 @@ overflow_cast-at-2 c = omega (arith, counts_small c.requires.0)
 pub loop-i-init : goal.loop-i-init
 loop-i-init c = placing_start _ _ _ c.requires.0 _ c.requires.1
 
-pub bounds-at-k : goal.bounds-at-k
-bounds-at-k c =
-    let declares : Declaration c.kind_at-kind.result = (says_within new_point new_arc c.kind_at-kind.result).so c.if-kind.true in
-    omega (arith, declares)
-
 pub overflow_cast-then : goal.overflow_cast-then
 overflow_cast-then c = omega (arith, c.size_by.ensures, size_small c.kind_at-kind.result)
 
@@ -36,14 +31,6 @@ pub overflow_add-then : goal.overflow_add-then
 overflow_add-then c =
     let declares : Declaration c.kind_at-kind.result = (says_within new_point new_arc c.kind_at-kind.result).so c.if-kind.true in
     omega (arith, c.size_by.ensures, place_small _ _ _ c.requires.0 c.loop-i.invariant c.kind_at-kind.result (declares) (omega arith))
-
-pub bounds-firsts-i : goal.bounds-firsts-i
-bounds-firsts-i c = omega (arith, c.requires.0.few)
-
-pub bounds-at-k-then-kind : goal.bounds-at-k-then-kind
-bounds-at-k-then-kind c =
-    let declares : Declaration c.kind_at-kind.result = (says_within new_point new_arc c.kind_at-kind.result).so c.if-kind.true in
-    omega (arith, declares)
 
 pub loop-i-preserved : goal.loop-i-preserved
 loop-i-preserved c =

@@ -15,33 +15,12 @@ returns-then-not-text-n c = ap formed.Refused c.malformed_at.ensures ∙ over _ 
 pub loop-i-init : goal.loop-i-init
 loop-i-init c = (omega arith, start _ _ _)
 
-pub overflow_mul-at : goal.overflow_mul-at
-overflow_mul-at c = omega arith
-
-pub overflow_add-end : goal.overflow_add-end
-overflow_add-end c = omega arith
-
-pub slice_bounds-kind_by-count : goal.slice_bounds-kind_by-count
-slice_bounds-kind_by-count c = omega arith
-
-pub slice_bounds-kind_by-start : goal.slice_bounds-kind_by-start
-slice_bounds-kind_by-start c = omega arith
-
-pub slice_bounds-kind_by-end : goal.slice_bounds-kind_by-end
-slice_bounds-kind_by-end c = omega arith
-
 pub returns-then-at_fault : goal.returns-then-at_fault
 returns-then-at_fault c =
     let kind_is : let a = c.args in c.kind_by-kind.result ≡ kind_told a.full a.text.now (record_of a.records.now c.loop-i.i) = let a = c.args in c.kind_by-kind.ensures ∙ ap (kind_told a.full a.text.now) (part_is a.records.now c.loop-i.i) in
     ap formed.Refused c.malformed_at-then-at_fault.ensures
     ∙ fault _ _ _ (c.if-not-text-n.false) _ _ c.loop-i.invariant.1 (omega arith) _ (kind_is)
     (sym c.at_fault.ensures ∙ c.if-at_fault.true)
-
-pub overflow_add-i : goal.overflow_add-i
-overflow_add-i c = omega arith
-
-pub loop-i-smaller : goal.loop-i-smaller
-loop-i-smaller c = omega arith
 
 pub loop-i-preserved : goal.loop-i-preserved
 loop-i-preserved c =

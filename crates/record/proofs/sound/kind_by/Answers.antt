@@ -1,11 +1,7 @@
 -- `record::sound::kind_by` meets its contract: each test that it goes by is one of the contract's. Assumes nothing.
-use mathlib.Core.Path.{◌≡◌, sym, ◌∙◌}
-use mathlib.Core.Bool.{true}
-use lib.ListN.{length}
 use borrow.Author.Tests.{eq-eqb, ne_eqb}
 use Rattle.record.specs.Decode.{decode}
 use Rattle.record.specs.Laid.{kind_told}
-use Rattle.record.specs.Steps.{shape_test}
 use Rattle.record.proofs.Records.{shape_is}
 use Rattle.record.proofs.sound.kind_by.Goals as goal
 
@@ -17,20 +13,10 @@ pub returns-then-not-shaped : goal.returns-then-not-shaped
 unfolding kind_told
 returns-then-not-shaped c = rw (← shape_is, eq-eqb _ _ c.if-b-ne-SIZE.false, ← c.shaped.ensures, c.if-not-shaped.true)
 
-pub labelled-requires : goal.labelled-requires
-unfolding kind_told
-labelled-requires c =
-    let shaped : let a = c.args in shape_test (length a.text.now) a.b.now ≡ true = sym c.shaped.ensures ∙ c.if-not-shaped.false in
-    (c.requires, record { whole = c.if-b-ne-SIZE.false; shape = shaped })
-
 pub returns-then-labelled : goal.returns-then-labelled
 unfolding kind_told decode
-returns-then-labelled c =
-    let shaped : let a = c.args in shape_test (length a.text.now) a.b.now ≡ true = sym c.shaped.ensures ∙ c.if-not-shaped.false in
-    rw (← shape_is, eq-eqb _ _ c.if-b-ne-SIZE.false, shaped, ← c.labelled.ensures, c.if-labelled.true)
+returns-then-labelled c = rw (← shape_is, eq-eqb _ _ c.if-b-ne-SIZE.false, ← c.shaped.ensures, c.if-not-shaped.false, ← c.labelled.ensures, c.if-labelled.true)
 
 pub returns-else-labelled : goal.returns-else-labelled
 unfolding kind_told
-returns-else-labelled c =
-    let shaped : let a = c.args in shape_test (length a.text.now) a.b.now ≡ true = sym c.shaped.ensures ∙ c.if-not-shaped.false in
-    rw (← shape_is, eq-eqb _ _ c.if-b-ne-SIZE.false, shaped, ← c.labelled.ensures, c.if-labelled.false)
+returns-else-labelled c = rw (← shape_is, eq-eqb _ _ c.if-b-ne-SIZE.false, ← c.shaped.ensures, c.if-not-shaped.false, ← c.labelled.ensures, c.if-labelled.false)

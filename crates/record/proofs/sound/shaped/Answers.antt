@@ -1,9 +1,12 @@
 -- `record::sound::shaped` meets its contract: the cells that it looks at are what the kind has, and behind the head there is a label.
 -- Assumes nothing.
 use mathlib.Core.Path.{◌≡◌, sym, ◌∙◌}
+use mathlib.Core.Bool.{Bool}
+use mathlib.Core.List.{List}
+use Prim.Native.Nat.{ℕ}
 use native.Mathlib.Omega.{arith}
 use Rattle.little.specs.Little.{byte}
-use Rattle.kinds.specs.Kinds.{kind_at}
+use Rattle.kinds.specs.Kinds.{kind_at, table, cell, labels_column, thirds_column}
 use Rattle.record.specs.Record.{mark}
 use Rattle.record.specs.Steps.{head_by, shape_test}
 use Rattle.kinds.proofs.Table.{guess_labels}
@@ -11,34 +14,28 @@ use Rattle.kinds.proofs.Cells.{looked, labels_is, thirds_is, number_is}
 use Rattle.refusal.proofs.Says.{says_and, says_if, says_eq, says_le, says_lt}
 use Rattle.record.proofs.sound.shaped.Goals as goal
 
+-- the head is tested by what the two cells that were looked up are
+head_is : {lent : List (List ℕ)} (k : ℕ) {labels thirds : ℕ} (b : List ℕ) {result : Bool} → lent ≡ table → labels ≡ cell lent k labels_column → thirds ≡ cell lent k thirds_column
+    → result ≡ head_by labels thirds b → result ≡ head_by (kind_at k).labels (kind_at k).thirds b
+head_is k b is labels thirds tested =
+    let n = looked _ k _ _ is labels (labels_is k) in
+    let t = looked _ k _ _ is thirds (thirds_is k) in
+    tested ∙ λ i. head_by (n i) (t i) b
+
 pub returns-then-not-headed : goal.returns-then-not-headed
 unfolding shape_test
-returns-then-not-headed c =
-    let head : let b = c.args.b.now in c.headed.result ≡ head_by (kind_at (byte b 1)).labels (kind_at (byte b 1)).thirds b = let b = c.args.b.now in let k = byte b 1 in
-    let labels = looked _ k _ _ c.requires.0 c.look-labels.ensures (labels_is k) in
-    let thirds = looked _ k _ _ c.requires.0 c.look-thirds.ensures (thirds_is k) in
-    c.headed.ensures ∙ λ i. head_by (labels i) (thirds i) b in
-    rw (← head, c.if-not-headed.true)
+returns-then-not-headed c = rw (← head_is _ _ c.requires.0 c.look-labels.ensures c.look-thirds.ensures c.headed.ensures, c.if-not-headed.true)
 
 pub rest-requires : goal.rest-requires
 rest-requires c =
-    let head : let b = c.args.b.now in c.headed.result ≡ head_by (kind_at (byte b 1)).labels (kind_at (byte b 1)).thirds b = let b = c.args.b.now in let k = byte b 1 in
-    let labels = looked _ k _ _ c.requires.0 c.look-labels.ensures (labels_is k) in
-    let thirds = looked _ k _ _ c.requires.0 c.look-thirds.ensures (thirds_is k) in
-    c.headed.ensures ∙ λ i. head_by (labels i) (thirds i) b in
     let b = c.args.b.now in let k = byte b 1 in
     let n = (kind_at k).labels in
     let t = (kind_at k).thirds in
     let says = says_and (says_and (says_eq (byte b 0) mark) (says_and (says_lt 0 n) (says_eq (byte b 3) n)))
     (says_and (says_le (byte b 2) t) (says_if (says_lt 0 t) (says_lt 0 (byte b 2)))) in
-    let h = (says.so (sym (head) ∙ c.if-not-headed.false)).0.1 in
+    let h = (says.so (sym (head_is k b c.requires.0 c.look-labels.ensures c.look-thirds.ensures c.headed.ensures) ∙ c.if-not-headed.false)).0.1 in
     (c.requires.1, omega (arith, h.0, h.1), λ g. omega (arith, h.1, guess_labels k g), looked _ k _ _ c.requires.0 c.look-sort.ensures (number_is k))
 
 pub returns : goal.returns
 unfolding shape_test
-returns c =
-    let head : let b = c.args.b.now in c.headed.result ≡ head_by (kind_at (byte b 1)).labels (kind_at (byte b 1)).thirds b = let b = c.args.b.now in let k = byte b 1 in
-    let labels = looked _ k _ _ c.requires.0 c.look-labels.ensures (labels_is k) in
-    let thirds = looked _ k _ _ c.requires.0 c.look-thirds.ensures (thirds_is k) in
-    c.headed.ensures ∙ λ i. head_by (labels i) (thirds i) b in
-    rw (← head, c.if-not-headed.false) c.rest.ensures
+returns c = rw (← head_is _ _ c.requires.0 c.look-labels.ensures c.look-thirds.ensures c.headed.ensures, c.if-not-headed.false) c.rest.ensures

@@ -13,22 +13,6 @@ use Rattle.record.specs.Sound.{spelled_test}
 use Rattle.record.proofs.Records.{few_count, view_here, inside_here}
 use Rattle.record.proofs.sound.spelled_all.Goals as goal
 
-pub overflow_cast-n : goal.overflow_cast-n
-unfolding decode
-overflow_cast-n c = omega (arith, c.type_inv.b 3, c.shared_slice_known-2-1.given 3)
-
-pub overflow_mul-q : goal.overflow_mul-q
-unfolding decode
-overflow_mul-q c =
-    let few : byte c.args.b.now 3 ≤ 4 = few_count _ _ c.requires in
-    omega (arith, few)
-
-pub overflow_add-q : goal.overflow_add-q
-unfolding decode
-overflow_add-q c =
-    let few : byte c.args.b.now 3 ≤ 4 = few_count _ _ c.requires in
-    omega (arith, few)
-
 pub view_at-requires : goal.view_at-requires
 unfolding decode
 view_at-requires c =
@@ -38,16 +22,6 @@ view_at-requires c =
 pub spelled_if-all-requires : goal.spelled_if-all-requires
 unfolding decode
 spelled_if-all-requires c e = rw c.view_at.ensures (inside_here _ _ c.requires c.loop-q.q c.loop-q-test.true)
-
-pub overflow_add-q-in-loop-q : goal.overflow_add-q-in-loop-q
-unfolding decode
-overflow_add-q-in-loop-q c =
-    let few : byte c.args.b.now 3 ≤ 4 = few_count _ _ c.requires in
-    omega (arith, few)
-
-pub loop-q-smaller : goal.loop-q-smaller
-unfolding decode
-loop-q-smaller c = omega arith
 
 -- the label that is read is that of the place
 pub loop-q-preserved : goal.loop-q-preserved
