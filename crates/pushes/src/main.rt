@@ -1,10 +1,15 @@
 // Answers the lines on standard input, which say what a layout is and what is lent, and ask for pushes, `done`s, lookups and readouts by the exported
 // functions. A line goes by its first letter, and its numbers stand behind its first word. tests/pushes.py writes the lines and says what each asks.
 #![tactic(auto)]
+
 use batch::line::{number, until};
 use bridge::{PARTS, shapes};
 use layout::{IDS_END, SLOTS};
-use libc::{STDIN_FILENO, STDOUT_FILENO};
+use std::io;
+use std::io::Write;
+
+// The most bytes of input.
+const MOST: usize = 65536;
 
 // How many ids there can be: those that are given, and the one past them.
 const IDS: u64 = (IDS_END as u64) + 1;
@@ -28,117 +33,131 @@ struct Told {
     parts: [u64; PARTS],
 }
 
-fn put(words: &[u8]) {
-    io::write_all(STDOUT_FILENO, words);
+fn put<W: Write>(out: &mut W, words: &[u8]) -> io::Result<()> {
+    out.write_all(words)
 }
 
 // Prints a number after a blank: an id by its digits, a value by its bits.
-fn put_number(n: u64, is_id: bool) {
-    put(b" ");
+fn put_number<W: Write>(out: &mut W, n: u64, is_id: bool) -> io::Result<()> {
+    put(out, b" ")?;
     if is_id {
-        io::print_decimal(STDOUT_FILENO, n);
+        let digits = print::decimal(n);
+        let bytes = digits.bytes;
+        let len = digits.len;
+        put(out, &bytes[..len])
     } else {
-        io::print_hex(STDOUT_FILENO, n, 16);
+        let digits = print::hex(n);
+        put(out, &digits)
     }
 }
 
 // Prints the first two, three or six numbers.
-fn put_parts(parts: [u64; PARTS], count: usize, are_ids: bool) {
-    put_number(parts[0], are_ids);
-    put_number(parts[1], are_ids);
+fn put_parts<W: Write>(
+    out: &mut W,
+    parts: [u64; PARTS],
+    count: usize,
+    are_ids: bool,
+) -> io::Result<()> {
+    put_number(out, parts[0], are_ids)?;
+    put_number(out, parts[1], are_ids)?;
     if 2 < count {
-        put_number(parts[2], are_ids);
+        put_number(out, parts[2], are_ids)?;
     }
     if 3 < count {
-        put_number(parts[3], are_ids);
-        put_number(parts[4], are_ids);
-        put_number(parts[5], are_ids);
+        put_number(out, parts[3], are_ids)?;
+        put_number(out, parts[4], are_ids)?;
+        put_number(out, parts[5], are_ids)?;
     }
-    put(b"\n");
+    put(out, b"\n")
 }
 
 // Prints a refusal's number and place.
-fn put_refusal(number: u64, place: u64) {
-    put(b" refused");
-    put_number(number, true);
-    put_number(place, true);
-    put(b"\n");
+fn put_refusal<W: Write>(out: &mut W, number: u64, place: u64) -> io::Result<()> {
+    put(out, b" refused")?;
+    put_number(out, number, true)?;
+    put_number(out, place, true)?;
+    put(out, b"\n")
 }
 
 // Prints what a lookup or a readout tells, under its name.
-fn put_told(name: &[u8], code: u64, parts: [u64; PARTS], count: usize, are_ids: bool) {
-    put(name);
+fn put_told<W: Write>(
+    out: &mut W,
+    name: &[u8],
+    code: u64,
+    parts: [u64; PARTS],
+    count: usize,
+    are_ids: bool,
+) -> io::Result<()> {
+    put(out, name)?;
     if code != 0 {
-        put_refusal(code, parts[0]);
-        return;
+        return put_refusal(out, code, parts[0]);
     }
-    put_parts(parts, count, are_ids);
+    put_parts(out, parts, count, are_ids)
 }
 
 // Prints the counts and the stage.
-fn put_layout(parts: [u64; PARTS]) {
-    put_number(parts[0], true);
-    put_number(parts[1], true);
-    put_number(parts[2], true);
+fn put_layout<W: Write>(out: &mut W, parts: [u64; PARTS]) -> io::Result<()> {
+    put_number(out, parts[0], true)?;
+    put_number(out, parts[1], true)?;
+    put_number(out, parts[2], true)?;
     match parts[3] {
-        0 => put(b" points"),
-        1 => put(b" circles"),
-        2 => put(b" arcs"),
-        _ => put(b" done"),
+        0 => put(out, b" points"),
+        1 => put(out, b" circles"),
+        2 => put(out, b" arcs"),
+        _ => put(out, b" done"),
     }
 }
 
 // Prints what a push or `done` tells; after a push the next id too.
-fn put_step(letter: u8, t: Told) {
+fn put_step<W: Write>(out: &mut W, letter: u8, t: Told) -> io::Result<()> {
     match letter {
-        b'P' => put(b"point"),
-        b'C' => put(b"circle"),
-        b'A' => put(b"arc"),
-        _ => put(b"done"),
+        b'P' => put(out, b"point")?,
+        b'C' => put(out, b"circle")?,
+        b'A' => put(out, b"arc")?,
+        _ => put(out, b"done")?,
     }
     let parts = t.parts;
     if t.code != 0 {
-        put_refusal(t.code, parts[0]);
-        return;
+        return put_refusal(out, t.code, parts[0]);
     }
-    put_layout(parts);
+    put_layout(out, parts)?;
     if letter != b'D' {
-        put_number(parts[4], true);
+        put_number(out, parts[4], true)?;
     }
-    put(b"\n");
+    put(out, b"\n")
 }
 
 // Prints all ids.
-fn put_ids(ids: &[u32]) {
-    put(b"ids");
+fn put_ids<W: Write>(out: &mut W, ids: &[u32]) -> io::Result<()> {
+    put(out, b"ids")?;
     let mut i = 0;
     while i < ids.len() {
-        put_id(ids[i]);
+        put_id(out, ids[i])?;
         i += 1;
     }
-    put(b"\n");
+    put(out, b"\n")
 }
 
-fn put_id(id: u32) {
-    put_number(id as u64, true);
+fn put_id<W: Write>(out: &mut W, id: u32) -> io::Result<()> {
+    put_number(out, id as u64, true)
 }
 
 // Prints all values.
-fn put_values(values: &[f64]) {
-    put(b"values");
+fn put_values<W: Write>(out: &mut W, values: &[f64]) -> io::Result<()> {
+    put(out, b"values")?;
     let mut i = 0;
     while i < values.len() {
-        put_number(bits::to_bits(values[i]), false);
+        put_number(out, bits::to_bits(values[i]), false)?;
         i += 1;
     }
-    put(b"\n");
+    put(out, b"\n")
 }
 
 // Prints how many ids rise by one from a first one.
-fn put_rising(ids: &[u32], first: u64) {
-    put(b"rising");
-    put_number(rising(ids, first), true);
-    put(b"\n");
+fn put_rising<W: Write>(out: &mut W, ids: &[u32], first: u64) -> io::Result<()> {
+    put(out, b"rising")?;
+    put_number(out, rising(ids, first), true)?;
+    put(out, b"\n")
 }
 
 // How many ids rise by one from a first one.
@@ -149,7 +168,7 @@ fn rising(ids: &[u32], first: u64) -> u64 {
         if wide(ids[i]) != id {
             return i as u64;
         }
-        id = std::num::wrapping_add_u64(id, 1);
+        id = id.wrapping_add(1);
         i += 1;
     }
     i as u64
@@ -160,29 +179,29 @@ fn wide(id: u32) -> u64 {
 }
 
 // Looks up and reads out the shapes with a number, and prints the answers.
-fn look(now: Now, ids: &[u32], values: &[f64], i: usize) {
+fn look<W: Write>(out: &mut W, now: Now, ids: &[u32], values: &[f64], i: usize) -> io::Result<()> {
     let p = now.points;
     let c = now.circles;
     let a = now.arcs;
     let s = now.stage;
-    let mut out = [0u64; PARTS];
-    put(b"number");
-    put_number(i as u64, true);
-    put(b"\n");
-    let code = shapes::hunposeto_point_ids(p, c, a, s, ids, i, &mut out);
-    put_told(b"point_ids", code, out, 2, true);
-    let code = shapes::hunposeto_circle_ids(p, c, a, s, ids, i, &mut out);
-    put_told(b"circle_ids", code, out, 3, true);
-    let code = shapes::hunposeto_arc_ids(p, c, a, s, ids, i, &mut out);
-    put_told(b"arc_ids", code, out, 6, true);
-    let code = shapes::hunposeto_arc_slot_ids(p, c, a, s, ids, i, &mut out);
-    put_told(b"arc_slot_ids", code, out, 6, true);
-    let code = shapes::hunposeto_point(p, c, a, s, values, i, &mut out);
-    put_told(b"point", code, out, 2, false);
-    let code = shapes::hunposeto_circle(p, c, a, s, values, i, &mut out);
-    put_told(b"circle", code, out, 3, false);
-    let code = shapes::hunposeto_arc(p, c, a, s, values, i, &mut out);
-    put_told(b"arc", code, out, 6, false);
+    let mut parts = [0u64; PARTS];
+    put(out, b"number")?;
+    put_number(out, i as u64, true)?;
+    put(out, b"\n")?;
+    let code = shapes::hunposeto_point_ids(p, c, a, s, ids, i, &mut parts);
+    put_told(out, b"point_ids", code, parts, 2, true)?;
+    let code = shapes::hunposeto_circle_ids(p, c, a, s, ids, i, &mut parts);
+    put_told(out, b"circle_ids", code, parts, 3, true)?;
+    let code = shapes::hunposeto_arc_ids(p, c, a, s, ids, i, &mut parts);
+    put_told(out, b"arc_ids", code, parts, 6, true)?;
+    let code = shapes::hunposeto_arc_slot_ids(p, c, a, s, ids, i, &mut parts);
+    put_told(out, b"arc_slot_ids", code, parts, 6, true)?;
+    let code = shapes::hunposeto_point(p, c, a, s, values, i, &mut parts);
+    put_told(out, b"point", code, parts, 2, false)?;
+    let code = shapes::hunposeto_circle(p, c, a, s, values, i, &mut parts);
+    put_told(out, b"circle", code, parts, 3, false)?;
+    let code = shapes::hunposeto_arc(p, c, a, s, values, i, &mut parts);
+    put_told(out, b"arc", code, parts, 6, false)
 }
 
 // Steps the layout where the letter is that of `done`, and else pushes a shape of the letter's kind, whose components rise by a quarter from v.
@@ -239,7 +258,13 @@ fn count(n: u64) -> usize {
 }
 
 // Steps, and steps so many times more, each time with components larger by one; prints the last answer.
-fn steps(line: &[u8], now: Now, ids: &mut [u32], values: &mut [f64]) -> Now {
+fn steps<W: Write>(
+    out: &mut W,
+    line: &[u8],
+    now: Now,
+    ids: &mut [u32],
+    values: &mut [f64],
+) -> io::Result<Now> {
     let letter = text::byte_at(line, 0);
     let mut now = now;
     let mut v = std::num::nearest_u64_to_f64(number(line, 1));
@@ -248,20 +273,21 @@ fn steps(line: &[u8], now: Now, ids: &mut [u32], values: &mut [f64]) -> Now {
         let t = step(letter, now, ids, values, v);
         now = after(letter, now, t);
         if left == 1 {
-            put_step(letter, t);
+            put_step(out, letter, t)?;
         }
         v += 1.0;
         left -= 1;
     }
-    now
+    Ok(now)
 }
 
 // Prints what stands behind `SAY` and a blank.
-fn say(line: &[u8]) {
+fn say<W: Write>(out: &mut W, line: &[u8]) -> io::Result<()> {
     if 4 <= line.len() {
-        put(&line[4..]);
-        put(b"\n");
+        put(out, &line[4..])?;
+        put(out, b"\n")?;
     }
+    Ok(())
 }
 
 // What stands after a line that gives a layout, the next id, or how much of each slice is lent.
@@ -285,34 +311,51 @@ fn given(line: &[u8], now: Now) -> Now {
 }
 
 // Answers a line over what is lent, and hands on what stands after it.
-fn answer(line: &[u8], now: Now, ids: &mut [u32], values: &mut [f64]) -> Now {
+fn answer<W: Write>(
+    out: &mut W,
+    line: &[u8],
+    now: Now,
+    ids: &mut [u32],
+    values: &mut [f64],
+) -> io::Result<Now> {
     match text::byte_at(line, 0) {
-        b'P' | b'C' | b'A' | b'D' => return steps(line, now, ids, values),
-        b'S' => say(line),
-        b'F' => look(now, ids, values, count(number(line, 1))),
-        b'I' => put_ids(ids),
-        b'V' => put_values(values),
-        b'U' => put_rising(ids, number(line, 1)),
+        b'P' | b'C' | b'A' | b'D' => return steps(out, line, now, ids, values),
+        b'S' => say(out, line)?,
+        b'F' => look(out, now, ids, values, count(number(line, 1)))?,
+        b'I' => put_ids(out, ids)?,
+        b'V' => put_values(out, values)?,
+        b'U' => put_rising(out, ids, number(line, 1))?,
         _ => {}
     }
-    given(line, now)
+    Ok(given(line, now))
 }
 
 // Answers a line over the part of each slice that is lent.
-fn answer_in(line: &[u8], now: Now, ids: &mut [u32], values: &mut [f64]) -> Now {
+fn answer_in<W: Write>(
+    out: &mut W,
+    line: &[u8],
+    now: Now,
+    ids: &mut [u32],
+    values: &mut [f64],
+) -> io::Result<Now> {
     let n = now.ids;
     let m = now.values;
     if ids.len() < n {
-        return now;
+        return Ok(now);
     }
     if values.len() < m {
-        return now;
+        return Ok(now);
     }
-    answer(line, now, &mut ids[..n], &mut values[..m])
+    answer(out, line, now, &mut ids[..n], &mut values[..m])
 }
 
 // Answers all lines.
-fn answer_all(text: &[u8], ids: &mut [u32], values: &mut [f64]) {
+fn answer_all<W: Write>(
+    out: &mut W,
+    text: &[u8],
+    ids: &mut [u32],
+    values: &mut [f64],
+) -> io::Result<()> {
     let mut now = Now {
         points: 0,
         circles: 0,
@@ -325,15 +368,16 @@ fn answer_all(text: &[u8], ids: &mut [u32], values: &mut [f64]) {
     let mut at = 0;
     while at < text.len() {
         let end = until(text, at, b'\n');
-        now = answer_in(&text[at..end], now, ids, values);
+        now = answer_in(out, &text[at..end], now, ids, values)?;
         at = end + 1;
     }
+    Ok(())
 }
 
-fn main() {
-    let mut input = io::large_buffer();
-    let n = io::read_full(STDIN_FILENO, &mut input);
+fn main(rt: HostRuntime) -> io::Result<()> {
+    let mut input = [0u8; MOST];
+    let n = stream::read_full(&mut rt.stdin(), &mut input)?;
     let mut ids = [7u32; SLOTS];
     let mut values = [9.5f64; SLOTS];
-    answer_all(&input[..n], &mut ids, &mut values);
+    answer_all(&mut rt.stdout(), &input[..n], &mut ids, &mut values)
 }

@@ -2,15 +2,20 @@
 // letter: `PAGE`, behind which a page stands, up to a `;`; `LOWER NEXT IDS VALUES BYTES I`, with so much lent, and with the byte of its records at place I
 // damaged, if there is one; `SAY`, which prints the rest of the line.
 #![tactic(auto)]
+
 ghost use Rattle.std.specs.Prelude.{◌≤◌};
 
 use batch::line::{number, until};
 use layout::IDS_END;
-use libc::{STDIN_FILENO, STDOUT_FILENO};
 use lowering::Lowered;
 use rail::Place;
 use reader::Reading;
 use record::{ROOM, SIZE};
+use std::io;
+use std::io::Write;
+
+// The most bytes of input.
+const MOST: usize = 65536;
 
 // The most slots and the most bytes of rows that are lent here.
 const SLOTS: usize = 32;
@@ -32,23 +37,28 @@ struct Page {
     end: usize,
 }
 
-fn put(words: &[u8]) {
-    io::write_all(STDOUT_FILENO, words);
+fn put<W: Write>(out: &mut W, words: &[u8]) -> io::Result<()> {
+    out.write_all(words)
 }
 
 // Prints what lowering told, by way of a buffer.
-fn put_lowered(r: Lowered, out: &mut [u8]) {
-    let Place::At(n) = lines::lowered_line(r, out, true, Place::At(0)) else {
-        return;
+fn put_lowered<W: Write>(out: &mut W, r: Lowered, room: &mut [u8]) -> io::Result<()> {
+    let Place::At(n) = lines::lowered_line(r, room, true, Place::At(0)) else {
+        return Ok(());
     };
-    if out.len() < n {
-        return;
+    if room.len() < n {
+        return Ok(());
     }
-    put(&out[..n]);
+    put(out, &room[..n])
 }
 
 // Prints whether everything lent is as it was, where the plate's first and last slots and rows are.
-fn put_kept(ids: [u32; SLOTS], values: [f64; SLOTS], rows: [u8; BYTES]) {
+fn put_kept<W: Write>(
+    out: &mut W,
+    ids: [u32; SLOTS],
+    values: [f64; SLOTS],
+    rows: [u8; BYTES],
+) -> io::Result<()> {
     if (ids[0] == ID)
         & (ids[12] == ID)
         & (values[0] == 0.5)
@@ -56,9 +66,9 @@ fn put_kept(ids: [u32; SLOTS], values: [f64; SLOTS], rows: [u8; BYTES]) {
         & (rows[0] == BYTE)
         & (rows[219] == BYTE)
     {
-        put(b"everything lent is as it was\n");
+        put(out, b"everything lent is as it was\n")
     } else {
-        put(b"ids, values and rows are written\n");
+        put(out, b"ids, values and rows are written\n")
     }
 }
 
@@ -71,7 +81,7 @@ fn up_to(line: &[u8], k: usize, most: usize) -> usize
 }
 
 // Lowers records with so much lent as a line says, and prints what is told.
-fn lower(text: &[u8], records: &[u8], line: &[u8]) {
+fn lower<W: Write>(out: &mut W, text: &[u8], records: &[u8], line: &[u8]) -> io::Result<()> {
     let next = (number(line, 1) % IDS) as u32;
     let i = up_to(line, 2, SLOTS);
     let v = up_to(line, 3, SLOTS);
@@ -88,8 +98,8 @@ fn lower(text: &[u8], records: &[u8], line: &[u8]) {
         &mut rows[..b],
     );
     let mut line = [0u8; 200];
-    put_lowered(r, &mut line);
-    put_kept(ids, values, rows);
+    put_lowered(out, r, &mut line)?;
+    put_kept(out, ids, values, rows)
 }
 
 // How many bytes the records of a reading take.
@@ -102,7 +112,7 @@ fn bytes_of(r: Reading) -> usize {
     else {
         return 0;
     };
-    let count = std::num::wrapping_add_usize(instructions, guesses);
+    let count = instructions.wrapping_add(guesses);
     if ROOM / SIZE < count {
         return 0;
     }
@@ -117,67 +127,80 @@ fn damage(records: &mut [u8], at: usize) {
 }
 
 // Reads a page, damages a byte of its records, and lowers it.
-fn read_and_lower(text: &[u8], line: &[u8], records: &mut [u8]) {
+fn read_and_lower<W: Write>(
+    out: &mut W,
+    text: &[u8],
+    line: &[u8],
+    records: &mut [u8],
+) -> io::Result<()> {
     let r = reader::parse_whole(text, records);
     damage(records, number(line, 5) as usize);
     let n = bytes_of(r);
     if records.len() < n {
-        return;
+        return Ok(());
     }
-    lower(text, &records[..n], line);
+    lower(out, text, &records[..n], line)
 }
 
 // Does so with a page of a text.
-fn lower_page(text: &[u8], page: Page, line: &[u8]) {
+fn lower_page<W: Write>(out: &mut W, text: &[u8], page: Page, line: &[u8]) -> io::Result<()> {
     let start = page.start;
     let end = page.end;
     if end < start {
-        return;
+        return Ok(());
     }
     if text.len() < end {
-        return;
+        return Ok(());
     }
     let mut records = [0u8; ROOM];
-    read_and_lower(&text[start..end], line, &mut records);
+    read_and_lower(out, &text[start..end], line, &mut records)
 }
 
 // Prints what stands behind `SAY` and a blank.
-fn say(line: &[u8]) {
+fn say<W: Write>(out: &mut W, line: &[u8]) -> io::Result<()> {
     if 4 <= line.len() {
-        put(&line[4..]);
-        put(b"\n");
+        put(out, &line[4..])?;
+        put(out, b"\n")?;
     }
+    Ok(())
 }
 
 // Answers a line of a text, behind which the text goes on at a place, and hands on the page.
-fn answer(text: &[u8], line: &[u8], then: usize, page: Page) -> Page {
+fn answer<W: Write>(
+    out: &mut W,
+    text: &[u8],
+    line: &[u8],
+    then: usize,
+    page: Page,
+) -> io::Result<Page> {
     match text::byte_at(line, 0) {
         b'P' => {
-            return Page {
+            return Ok(Page {
                 start: then,
                 end: until(text, then, b';'),
-            };
+            });
         }
-        b'L' => lower_page(text, page, line),
-        b'S' => say(line),
+        b'L' => lower_page(out, text, page, line)?,
+        b'S' => say(out, line)?,
         _ => {}
     }
-    page
+    Ok(page)
 }
 
 // Answers all lines.
-fn answer_all(text: &[u8]) {
+fn answer_all<W: Write>(out: &mut W, text: &[u8]) -> io::Result<()> {
     let mut page = Page { start: 0, end: 0 };
     let mut at = 0;
     while at < text.len() {
         let end = until(text, at, b'\n');
-        page = answer(text, &text[at..end], end + 1, page);
+        page = answer(out, text, &text[at..end], end + 1, page)?;
         at = end + 1;
     }
+    Ok(())
 }
 
-fn main() {
-    let mut input = io::large_buffer();
-    let n = io::read_full(STDIN_FILENO, &mut input);
-    answer_all(&input[..n]);
+fn main(rt: HostRuntime) -> io::Result<()> {
+    let mut input = [0u8; MOST];
+    let n = stream::read_full(&mut rt.stdin(), &mut input)?;
+    answer_all(&mut rt.stdout(), &input[..n])
 }
