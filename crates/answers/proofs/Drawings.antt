@@ -35,7 +35,7 @@ use Rattle.lowering.proofs.rows.Formed.{rows_fit, rows_formed}
 use Rattle.lowering.proofs.drawing.Fine.{fine}
 use Rattle.lowering.proofs.answer.Lacking.{lower_good, lower_refused}
 use Rattle.lowering.proofs.answer.Ends.{Fronts, fronts}
-use Rattle.ground.proofs.Pieces.{Each, each_at, get_d_map}
+use Rattle.ground.proofs.Pieces.{Each, each_at, get_or_map}
 use Rattle.lowering.proofs.slots.Values.{length_values}
 use Rattle.lines.specs.Drawn.{lowered_line, slot_line, row_line}
 use Rattle.lines.proofs.RowBack.{row_printed}
@@ -58,7 +58,7 @@ x_fits : (s : List ℕ) → length s ≤ longest_text → (i : ℕ) → i < leng
 unfolding entry_of
 x_fits s short i h =
     let b : i < length (records_in s) = omega (arith, length-map (records_in s) (entry_of s)) in
-    rw (get_d_map (entry_of s) (records_in s) i no_record) (written_fits s short no_record i b).x_fits
+    rw (get_or_map (entry_of s) (records_in s) i no_record) (written_fits s short no_record i b).x_fits
 
 -- ---- slots
 

@@ -87,8 +87,8 @@ module _ {A B : Type 0} (f : A → List B) where
 -- ---- f of each
 
 module _ {A B : Type 0} (f : A → B) where
-  pub get_d_map : (xs : List A) (j : ℕ) (d : A) (e : B) → j < length xs → get_or (map f xs) j e ≡ f (get_or xs j d)
-  get_d_map xs j d e h = get_or_inside (map f xs) j e (f d) (rw (length-map xs f) h) ∙ ListN.get_or-map f xs j d
+  pub get_or_map : (xs : List A) (j : ℕ) (d : A) (e : B) → j < length xs → get_or (map f xs) j e ≡ f (get_or xs j d)
+  get_or_map xs j d e h = get_or_inside (map f xs) j e (f d) (rw (length-map xs f) h) ∙ ListN.get_or-map f xs j d
 
   pub map_each : (Q : B → Type 0) (xs : List A) → Each (λ x. Q (f x)) xs → Each Q (map f xs)
   map_each Q [] a = tt

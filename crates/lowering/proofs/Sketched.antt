@@ -9,7 +9,7 @@ use lib.Dec.{eqb}
 use lib.ListN
 use lib.ListN.{length, get_or, length-map}
 use Rattle.ground.specs.Lists.{flat}
-use Rattle.ground.proofs.Pieces.{Each, each_of, get_d_map}
+use Rattle.ground.proofs.Pieces.{Each, each_of, get_or_map}
 use Rattle.refusal.specs.First.{passed}
 use Rattle.refusal.proofs.Alike.{and_alike}
 use Rattle.layout.specs.Slots.{slot_count}
@@ -89,7 +89,7 @@ module _ (es : List Entry) where
         let one : Guess (kind_no es i) → 0 < length (entry_at es i).labels = λ g. omega (arith, (w.sound i h).count, guess_label (kind_no es i) g) in
         (λ j. within pair_guess number_guess (line_at_lem i j).kind && tells k (get_or (line_at_lem i j).names 0 0))
         ∙ and_alike (within pair_guess number_guess (kind_no es i)) _ _
-        (λ e. ap (tells k) (get_d_map (name_for es) (entry_at es i).labels 0 [] 0 (one ((says_within pair_guess number_guess (kind_no es i)).so e))))
+        (λ e. ap (tells k) (get_or_map (name_for es) (entry_at es i).labels 0 [] 0 (one ((says_within pair_guess number_guess (kind_no es i)).so e))))
 
     numbers_are : (d part : ℕ) → numbers_by (sketch es) d part ≡ numbers_of es d part
     numbers_are d part =

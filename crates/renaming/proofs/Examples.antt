@@ -10,7 +10,7 @@ use lib.ListN.{length, get_or, replicate, length-map}
 use lib.Ieee.{Float, nan}
 use Rattle.ground.specs.Words.{bytes}
 use Rattle.ground.specs.Lists.{flat}
-use Rattle.ground.proofs.Pieces.{get_d_map}
+use Rattle.ground.proofs.Pieces.{get_or_map}
 use Rattle.refusal.specs.Refusal.{refusal}
 use Rattle.refusal.specs.First.{lowest, first}
 use Rattle.text.specs.Text.{run_to, word_at, byte_on, label_at, label_on, suffixed_on}
@@ -126,7 +126,7 @@ relabel f e = record { kind = e.kind; third = e.third; labels = map (renamed f) 
 pub relabelled : (f : Label → Label) (es : List Entry) → Renamed f es (map (relabel f) es)
 relabelled f es = record {
   count_same = length-map es (relabel f);
-  each = λ i h. rw (get_d_map (relabel f) es i no_entry no_entry h) (record { kind_same = refl; third_same = refl; x_same = refl; y_same = refl; labels_become = refl });
+  each = λ i h. rw (get_or_map (relabel f) es i no_entry no_entry h) (record { kind_same = refl; third_same = refl; x_same = refl; y_same = refl; labels_become = refl });
 }
 
 pub other_names : Renamed becomes (read_back plate) (read_back theirs)

@@ -6,7 +6,7 @@ use Prim.Native.Nat.{ℕ, ◌<◌}
 use native.Mathlib.Omega.{arith}
 use lib.ListN.{length, get_or}
 use lib.Seq.{ext_get_or}
-use Rattle.ground.proofs.Pieces.{each_of, get_d_map, map_both}
+use Rattle.ground.proofs.Pieces.{each_of, get_or_map, map_both}
 use Rattle.kinds.specs.Kinds.{Declaration}
 use Rattle.kinds.proofs.Table.{some_label}
 use Rattle.record.specs.Entry.{Label, Entry, entry_at, label_no}
@@ -36,7 +36,7 @@ module _ {becomes : Label → Label} {es es' : List Entry} (r : Renamed becomes 
   name_becomes i h =
       let s = w.sound i h in
       ap (λ (ls : List Label). get_or ls 0 []) (r.each i h).labels_become
-      ∙ get_d_map (renamed becomes) (entry_at es i).labels 0 [] [] (omega (arith, s.count, some_label (kind_no es i) s.known))
+      ∙ get_or_map (renamed becomes) (entry_at es i).labels 0 [] [] (omega (arith, s.count, some_label (kind_no es i) s.known))
 
   shape_becomes : (i : ℕ) → i < length es → Declaration (kind_no es i) → name_no es' i ≡ becomes (name_no es i)
   shape_becomes i h d = name_becomes i h ∙ renamed_bare becomes (name_no es i) ((clear es w).pointless i h d)

@@ -31,7 +31,7 @@ use Rattle.lowering.specs.Demand.{no_slot, Declares, ComponentOf, rules_before}
 use Rattle.lowering.specs.Sketch.{many_of, of_kind}
 use Rattle.names.proofs.Laws.{within_one}
 use Rattle.drawing.proofs.Laws.{count_le}
-use Rattle.ground.proofs.Pieces.{Each, get_d_map, each_of, length_flat, Picks, picks_suc, picks_around}
+use Rattle.ground.proofs.Pieces.{Each, get_or_map, each_of, length_flat, Picks, picks_suc, picks_around}
 
 -- ---- what is picked
 
@@ -120,7 +120,7 @@ pub slots_by_lem : {A : Type 0} (f : Slot → A) (g : ℕ → A) (d : A) {es : L
     → ComponentOf es i s k t → map f (slots_of_shape s (name_no es i)) ≡ up_to (size s) g → f t ≡ g k
 slots_by_lem f g d {es} {i} {s} {k} c e =
     let h = c.one_of_it in
-    ap f c.is ∙ sym (get_d_map f (slots_of_shape s (name_no es i)) k no_slot d (rw (length_shape s (name_no es i)) h)) ∙ rw e (get_or_up_to (size s) g k d h)
+    ap f c.is ∙ sym (get_or_map f (slots_of_shape s (name_no es i)) k no_slot d (rw (length_shape s (name_no es i)) h)) ∙ rw e (get_or_up_to (size s) g k d h)
 
 pub at_first : {A : Type 0} (xs : List A) (at : ℕ) (d : A) → get_or xs at d ≡ get_or xs (at + 0) d
 at_first xs at d = rw add-zero refl

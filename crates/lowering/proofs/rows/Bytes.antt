@@ -13,7 +13,7 @@ use Rattle.row.proofs.Back.{length_row, id_read}
 use Rattle.row.specs.Row.{Row, row_bytes, encode_row, encode_rows, row_no}
 use Rattle.lowering.specs.Rows.{row_for, rules_of, rows_of}
 use Rattle.lowering.specs.Demand.{RowOf, rules_before}
-use Rattle.ground.proofs.Pieces.{Each, each_of, length_flat, piece_at, get_d_map}
+use Rattle.ground.proofs.Pieces.{Each, each_of, length_flat, piece_at, get_or_map}
 use Rattle.names.proofs.Laws.{says_within}
 use Rattle.lowering.proofs.drawing.Counts.{rules_pick, picks_inside, picks_at}
 use Rattle.lowering.proofs.drawing.Fine.{Fine}
@@ -43,7 +43,7 @@ module _ (es : List Entry) (next : ℕ) where
     unfolding rows_of
     row_at rest =
         piece_at encode_row row_bytes (rows_of es next) rest (row_for es next no_entry) rows_fit (rules_before es i) (omega (arith, rule_inside es i h u, count_rows))
-        ∙ ap encode_row (get_d_map (row_for es next) (rules_of es) (rules_before es i) no_entry (row_for es next no_entry) (rule_inside es i h u)
+        ∙ ap encode_row (get_or_map (row_for es next) (rules_of es) (rules_before es i) no_entry (row_for es next no_entry) (rule_inside es i h u)
         ∙ ap (row_for es next) (picks_at _ _ _ _ rules_pick es i h ((says_within first_rule last_rule (kind_no es i)).back u) no_entry))
 
     pub row_of : Fine es → next + length (slots es) ≤ ids_end → (rest : List ℕ) → RowOf es next (entry_at es i) (row_no (encode_rows (rows_of es next) ++ rest) (rules_before es i))

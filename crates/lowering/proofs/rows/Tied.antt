@@ -7,7 +7,7 @@ use native.Mathlib.Nat.{zero-lt-suc}
 use native.Mathlib.Omega.{arith}
 use lib.ListN.{length, get_or, length-map}
 use Rattle.ground.specs.Lists.{flat, up_to}
-use Rattle.ground.proofs.Pieces.{get_d_map}
+use Rattle.ground.proofs.Pieces.{get_or_map}
 use Rattle.layout.specs.Slots.{ids_end}
 use Rattle.record.specs.Record.{most_records}
 use Rattle.kinds.specs.Kinds.{Rule}
@@ -44,7 +44,7 @@ module _ (es : List Entry) (w : Fine es) (next i : ℕ) (h : i < length es) (u :
     work = worked_out es w i h u q g
 
     span_is : span_at e.kind e.third (map (name_for es) e.labels) q ≡ span_of es e q
-    span_is = rw (get_d_map (name_for es) e.labels q [] 0 g) refl
+    span_is = rw (get_or_map (name_for es) e.labels q [] 0 g) refl
 
   pub ids_same : flat (named_ids es next (entry_at es i)) (entry_at es i).labels ≡ ids_by (first_in (kind_no es) (length es)) next (kind_no es i) (entry_at es i).third (map (name_for es) (entry_at es i).labels)
   unfolding ids_by

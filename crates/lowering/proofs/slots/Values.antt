@@ -17,7 +17,7 @@ use Rattle.drawing.specs.Faults.{Guessed}
 use Rattle.lowering.specs.Slots.{Slot, slots_of_shape, slots, guess_of, start_of, values_of}
 use Rattle.lowering.specs.Lower.{onto}
 use Rattle.lowering.specs.Demand.{no_slot, slot_at, GuessFor, Starts}
-use Rattle.ground.proofs.Pieces.{Each, each_at, get_d_map}
+use Rattle.ground.proofs.Pieces.{Each, each_at, get_or_map}
 use Rattle.lowering.proofs.drawing.Counts.{length_shape}
 use Rattle.lowering.proofs.drawing.Fine.{Fine}
 use Rattle.lowering.proofs.slots.Components.{component_at_lem}
@@ -74,4 +74,4 @@ module _ (es : List Entry) where
   pub value_at : (values : List Float) (j : ℕ) → j < length (slots es) → get_or (onto values (values_of es)) j nan ≡ start_of es (slot_at es j)
   unfolding values_of
   value_at values j h =
-      get_or-append (values_of es) (drop (length (values_of es)) values) nan j (omega (arith, h, length_values)) ∙ get_d_map (start_of es) (slots es) j no_slot nan h
+      get_or-append (values_of es) (drop (length (values_of es)) values) nan j (omega (arith, h, length_values)) ∙ get_or_map (start_of es) (slots es) j no_slot nan h
