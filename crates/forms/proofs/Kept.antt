@@ -52,13 +52,13 @@ abbrev pub Declares : ℕ → Type 0
 Declares k = (is_guess k ≡ false) × (fields_test (kind_at k) 0 1 0 0 ≡ true) × ((kind_at k).dotted ≡ false)
 
 -- what holds of each form, and of no line, holds of an instruction; of the keyword forms it may hold by a test of their kinds
-module _ (s : List ℕ) (Q : Lines → Type 0) (no_line : Q (no_line Nothing)) where
+module _ (s : List ℕ) (Q : Lines → Type 0) (nothing : Q (no_line Nothing)) where
   or_of : {x y : Lines} → Q x → Q y → Q (or_line x y)
   or_of {x} {y} f g = either_of Q x.then x y f g
 
   first_of_lem : (t : Stand) (test : ℕ → Bool) → ((k : ℕ) → test k ≡ true → Q (keyword_on s t k)) → (ks : List ℕ) → all test ks ≡ true → Q (first_of s t ks)
   unfolding first_of
-  first_of_lem t test f [] e = no_line
+  first_of_lem t test f [] e = nothing
   first_of_lem t test f (k ∷ ks) e = or_of (f k (and_first (test k) (all test ks) e)) (first_of_lem t test f ks (and_second (test k) (all test ks) e))
 
   pub instruction_of : (t : Stand) → let at = ws_on s t in let l = label_on s at in

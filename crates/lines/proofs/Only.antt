@@ -14,7 +14,7 @@ use Rattle.lines.proofs.lowered_line.Reads as lowered_line
 use Rattle.lines.proofs.slot_line.Kinds as slot_line_kinds
 use Rattle.lines.proofs.slot_line.Reads as slot_line
 use Rattle.lines.proofs.row_line.Kinds as row_line_kinds
-use Rattle.lines.proofs.row_line.Reads as row_Line
+use Rattle.lines.proofs.row_line.Reads as row_line
 
 pub first_line_only : Settled (ended_of 1 first_line_kinds.ps first_line_kinds.r) first_line.Post
 first_line_only κs a x y v w p q = ((same p q).0, λ j. (tt, ((same p q).1 j, (tt, (tt, tt)))))
@@ -31,5 +31,5 @@ lowered_line_only κs a x y v w p q = ((same p q).0, λ j. (tt, ((same p q).1 j,
 pub slot_line_only : Settled (ended_of 1 slot_line_kinds.ps slot_line_kinds.r) slot_line.Post
 slot_line_only κs a x y v w p q = ((same p q).0, λ j. (tt, (tt, ((same p q).1 j, (tt, (tt, tt))))))
 
-pub row_line_only : Settled (ended_of 2 row_line_kinds.ps row_line_kinds.r) row_Line.Post
+pub row_line_only : Settled (ended_of 2 row_line_kinds.ps row_line_kinds.r) row_line.Post
 row_line_only κs a x y v w p q = ((same p q).0, λ j. (tt, (tt, ((same p q).1 j, (tt, (tt, tt))))))

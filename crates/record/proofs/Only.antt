@@ -1,7 +1,7 @@
 -- The promise of each public function, as its source states it, determines the answer: each is an equation. Assumes nothing.
 use Rattle.ground.proofs.Determined.{Determined, by_equation}
 use Rattle.record.proofs.one_label.Kinds as one_label_kinds
-use Rattle.record.proofs.one_label.Reads as one_Label
+use Rattle.record.proofs.one_label.Reads as one_label
 use Rattle.record.proofs.no_record.Kinds as no_record_kinds
 use Rattle.record.proofs.no_record.Reads as no_record
 use Rattle.record.proofs.encode_record.Kinds as encode_record_kinds
@@ -17,7 +17,7 @@ use Rattle.record.proofs.formed.well_formed.Reads as well_formed
 use Rattle.record.proofs.formed.laid_out.Kinds as laid_out_kinds
 use Rattle.record.proofs.formed.laid_out.Reads as laid_out
 
-pub one_label_only : Determined 0 one_label_kinds.ps one_label_kinds.r one_Label.Post
+pub one_label_only : Determined 0 one_label_kinds.ps one_label_kinds.r one_label.Post
 one_label_only κs a x y e f p q = by_equation p q
 
 pub no_record_only : Determined 0 no_record_kinds.ps no_record_kinds.r no_record.Post

@@ -87,12 +87,12 @@ any_guess es n = any_below n (λ j. is_guess (entry_at es j).kind)
 
 -- an entry that is not sound or not in its place, by whether it is the first and whether a guess stands before it
 abbrev pub fault_test : Entry → Bool → Bool → Bool
-fault_test e at_first behind-guess =
-    not (sound_test e) || ((at_first && is_guess e.kind) || (not (is_guess e.kind) && behind-guess))
+fault_test e at_first behind_guess =
+    not (sound_test e) || ((at_first && is_guess e.kind) || (not (is_guess e.kind) && behind_guess))
 
 -- the same by the kind of a record, with 0 for one that is not sound, and by its place
 abbrev pub misplaced : ℕ → ℕ → Bool → Bool
-misplaced kind i behind-guess = eqb kind 0 || ((eqb i 0 && is_guess kind) || (not (is_guess kind) && behind-guess))
+misplaced kind i behind_guess = eqb kind 0 || ((eqb i 0 && is_guess kind) || (not (is_guess kind) && behind_guess))
 
 -- the list is at fault at place i
 unfoldable pub malformed_test : List Entry → ℕ → Bool

@@ -20,7 +20,7 @@ use Rattle.lowering.proofs.drawing.Counts.{rules_pick}
 use Rattle.lowering.proofs.drawing.Fine.{Fine}
 use Rattle.lowering.proofs.rows.Labels.{ids_count, ids_few, ids_given}
 
-module _ (es : List Entry) (w : Fine es) (next : ℕ) (left : next + length (slots es) ≤ ids_end) (x_Fits : (i : ℕ) → i < length es → (entry_at es i).x < 2 ^ 64) where
+module _ (es : List Entry) (w : Fine es) (next : ℕ) (left : next + length (slots es) ≤ ids_end) (x_fits : (i : ℕ) → i < length es → (entry_at es i).x < 2 ^ 64) where
   each_row : Each (λ (r : Row). RowFits r × FieldsFormed (held r)) (rows_of es next)
   unfolding rows_of
   each_row =
@@ -29,7 +29,7 @@ module _ (es : List Entry) (w : Fine es) (next : ℕ) (left : next + length (slo
       (λ j h t.
       let u = (says_within first_rule last_rule (kind_no es j)).so t in
       let ids = (row_for es next (entry_at es j)).ids in (
-        record { few = ids_few es w j h u next; ids_fit = λ q. omega (arith, ids_given es w j h u next left q); bits_fit = x_Fits j h },
+        record { few = ids_few es w j h u next; ids_fit = λ q. omega (arith, ids_given es w j h u next left q); bits_fit = x_fits j h },
         record {
           rule = u;
           count = ids_count es w j h u next;
