@@ -7,7 +7,7 @@ use rail::Place;
 use std::io;
 use std::io::Write;
 
-// As many bytes as a page may have and one more.
+// The most bytes that are read: more than a page may have.
 const MOST: usize = 65536;
 
 fn main(rt: HostRuntime) -> io::Result<()> {

@@ -1,7 +1,5 @@
 -- `drawing::judge` meets its contract: not resolved, a fault found, or none. Assumes nothing.
 use mathlib.Core.Path.{refl, ◌∙◌}
-use Prim.Native.Nat.{◌≤◌}
-use Rattle.record.specs.Record.{most_records}
 use Rattle.record.specs.Decode.{count_of}
 use Rattle.drawing.specs.Numbers.{lent_numbers, test_by}
 use Rattle.drawing.specs.Judged.{judged_of}
@@ -23,24 +21,16 @@ returns-then-w-lt-FAULTS c =
     c.behind_30-then-w-lt-FAULTS.ensures ∙ rw (c.if-resolved-records.false, is, number)
 
 pub count-requires : goal.count-requires
-count-requires c =
-    let few : count_of c.args.records.now ≤ most_records = few_judged c.args.resolved _ c.if-resolved-records.false in
-    few
+count-requires c = few_judged c.args.resolved _ c.if-resolved-records.false
 
 pub count-requires-2 : goal.count-requires-2
-count-requires-2 c =
-    let few : count_of c.args.records.now ≤ most_records = few_judged c.args.resolved _ c.if-resolved-records.false in
-    few
+count-requires-2 c = few_judged c.args.resolved _ c.if-resolved-records.false
 
 pub count-requires-3 : goal.count-requires-3
-count-requires-3 c =
-    let few : count_of c.args.records.now ≤ most_records = few_judged c.args.resolved _ c.if-resolved-records.false in
-    few
+count-requires-3 c = few_judged c.args.resolved _ c.if-resolved-records.false
 
 pub count-requires-4 : goal.count-requires-4
-count-requires-4 c =
-    let few : count_of c.args.records.now ≤ most_records = few_judged c.args.resolved _ c.if-resolved-records.false in
-    few
+count-requires-4 c = few_judged c.args.resolved _ c.if-resolved-records.false
 
 pub returns : goal.returns
 unfolding judged_of
