@@ -1,4 +1,5 @@
 -- What is told of a lowering with room enough is what is due of the page's drawing: slot by slot and row by row, from what was written. Assumes nothing.
+use Rattle.std.specs.Prelude.{Result, Err}
 use mathlib.Core.Path.{◌≡◌, refl, sym, ap, ◌∙◌}
 use mathlib.Core.List.{List, map}
 use Prim.Native.Nat.{ℕ, ◌+◌, ◌*◌, ◌/◌, ◌^◌, ◌≤◌, ◌<◌}
@@ -12,6 +13,7 @@ use Rattle.layout.specs.declared.Layout.{Layout}
 use Rattle.layout.specs.Push.{onward}
 use Rattle.layout.proofs.Onward.{length_onward, get_or_onward}
 use Rattle.refusal.specs.declared.Refusal.{Refusal}
+use Rattle.refusal.proofs.Good.{held_same}
 use Rattle.record.specs.Record.{most_records, longest_text}
 use Rattle.record.specs.Decode.{no_record}
 use Rattle.record.specs.Entry.{Entry, entry_at, entry_of}
@@ -22,11 +24,10 @@ use Rattle.reader.proofs.Written.{written_fits}
 use Rattle.drawing.specs.Faults.{Fault, number_of}
 use Rattle.drawing.specs.Check.{check_of}
 use Rattle.lowering.specs.declared.Lowered.{Lowered}
-use Rattle.lowering.specs.declared.Lowered.TheVariants as L
 use Rattle.lowering.specs.Slots.{slots, layout_of, values_of}
 use Rattle.row.specs.Row.{Row, row_bytes, encode_rows, decode_row, row_of, RowFits}
 use Rattle.lowering.specs.Rows.{rules_of, rows_of}
-use Rattle.lowering.specs.Lower.{Room, room_in, lower_of, Lowers}
+use Rattle.lowering.specs.Lower.{Room, room_in, lower_of, Lowers, good_lowering}
 use Rattle.lowering.specs.Demand.{Enough}
 use Rattle.row.specs.Formed.{RowsFormed}
 use Rattle.row.proofs.Back.{no_row, rows_length, rows_count, row_no_lem}
@@ -87,7 +88,7 @@ lent = room_in 0 ids₀ values₀ rows₀
 pub there : {A : Type 0} (n : ℕ) (l : List A) → length (take n l) ≡ n → n ≤ length l
 there n l e = omega (arith, length-take n l)
 
-module _ {s bs : List ℕ} (read : Read s bs) {told : Lowered} {ids : List ℕ} {values : List Float} {rows : List ℕ} (call : Lowers (entries s bs) 0 ids₀ values₀ rows₀ told ids values rows) where
+module _ {s bs : List ℕ} (read : Read s bs) {told : Result Lowered Refusal} {ids : List ℕ} {values : List Float} {rows : List ℕ} (call : Lowers (entries s bs) 0 ids₀ values₀ rows₀ told ids values rows) where
   few : length (lines_of s) ≤ most_records
   few = omega (arith, length-map (records_in s) (entry_of s))
 
@@ -99,13 +100,13 @@ module _ {s bs : List ℕ} (read : Read s bs) {told : Lowered} {ids : List ℕ} 
 
   -- what is told, by the check
   told_by_lem : (a : Answer Fault) → check_of (lines_of s) ≡ a
-      → told ≡ answered number_of L.Refused a (L.Good (layout_of (lines_of s)) (0 + length (slots (lines_of s))) (length (rules_of (lines_of s))))
+      → told ≡ answered number_of Err a (good_lowering (layout_of (lines_of s)) (0 + length (slots (lines_of s))) (length (rules_of (lines_of s))))
   unfolding answered
   told_by_lem passed h = on_lines.answer ∙ lower_good (lines_of s) lent suffices h
   told_by_lem (refused f i) h = on_lines.answer ∙ lower_refused (lines_of s) lent f i h
 
   -- a refusal is the check's
-  pub refused_lines : {r : Refusal} → told ≡ L.Refused r → drawing_lines (check_of (lines_of s)) (lines_of s) ≡ lowered_line told
+  pub refused_lines : {r : Refusal} → told ≡ Err r → drawing_lines (check_of (lines_of s)) (lines_of s) ≡ lowered_line told
   unfolding lowered_line answered
   refused_lines {r} e = go (check_of (lines_of s)) refl
     where
@@ -113,7 +114,7 @@ module _ {s bs : List ℕ} (read : Read s bs) {told : Lowered} {ids : List ℕ} 
       go passed h = cc (told_by_lem passed h)
       go (refused f i) h = rw (told_by_lem (refused f i) h)
 
-  module _ {l : Layout} {next count : ℕ} (e : told ≡ L.Good l next count) where
+  module _ {l : Layout} {next count : ℕ} (e : told ≡ good_lowering l next count) where
     passes : check_of (lines_of s) ≡ passed
     unfolding answered
     passes = go (check_of (lines_of s)) refl
@@ -122,17 +123,20 @@ module _ {s bs : List ℕ} (read : Read s bs) {told : Lowered} {ids : List ℕ} 
         go passed h = refl
         go (refused f i) h = cc (told_by_lem (refused f i) h)
 
-    good_is : lower_of (lines_of s) lent ≡ L.Good (layout_of (lines_of s)) (0 + length (slots (lines_of s))) (length (rules_of (lines_of s)))
+    good_is : lower_of (lines_of s) lent ≡ good_lowering (layout_of (lines_of s)) (0 + length (slots (lines_of s))) (length (rules_of (lines_of s)))
     good_is = lower_good (lines_of s) lent suffices passes
 
-    told_is : told ≡ L.Good (layout_of (lines_of s)) (length (slots (lines_of s))) (length (rules_of (lines_of s)))
+    told_is : told ≡ good_lowering (layout_of (lines_of s)) (length (slots (lines_of s))) (length (rules_of (lines_of s)))
     told_is = on_lines.answer ∙ good_is ∙ rw zero-add
 
+    same : ◌≡◌ {A = Lowered} (record { layout = l; next = next; rows = count }) (record { layout = layout_of (lines_of s); next = length (slots (lines_of s)); rows = length (rules_of (lines_of s)) })
+    same = held_same (sym e ∙ told_is)
+
     next_is : next ≡ length (slots (lines_of s))
-    next_is = cc (told_is, e)
+    next_is = ap (λ (x : Lowered). x.next) same
 
     count_is : count ≡ length (rules_of (lines_of s))
-    count_is = cc (told_is, e)
+    count_is = ap (λ (x : Lowered). x.rows) same
 
     pub count_most : count ≤ most_records
     count_most = rw count_is (rules_most (lines_of s) few)
@@ -171,6 +175,6 @@ module _ {s bs : List ℕ} (read : Read s bs) {told : Lowered} {ids : List ℕ} 
     rows_size = ap length rows_taken ∙ written_length
 
     -- and its lines are those that are due
-    pub good_lines : drawing_lines (check_of (lines_of s)) (lines_of s) ≡ lowered_by (L.Good l next count) (take next ids) (take next values) (take (count * row_bytes) rows)
+    pub good_lines : drawing_lines (check_of (lines_of s)) (lines_of s) ≡ lowered_by (good_lowering l next count) (take next ids) (take next values) (take (count * row_bytes) rows)
     unfolding lowered_by slots_by
     good_lines = rw (passes, ids_taken, values_taken, rows_taken, slots_shown (lines_of s), rows_shown (rows_of (lines_of s) 0) fits, ← e, told_is)

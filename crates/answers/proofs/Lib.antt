@@ -4,3 +4,5 @@ pub mod Only
 pub mod Page
 pub mod Records
 pub mod Room
+pub mod Slots
+pub mod Sent

@@ -1,5 +1,6 @@
 -- The lines of the records that a good reading wrote are the lines of the page, as each record comes back from its bytes; and what is
 -- answered goes by what the reading told. Assumes nothing.
+use Rattle.std.specs.Prelude.{Result, Err}
 use mathlib.Core.Path.{◌≡◌, refl, ap, ◌∙◌}
 use mathlib.Core.Bool.{Bool}
 use mathlib.Core.List.{List, map, map-map}
@@ -15,8 +16,7 @@ use Rattle.record.specs.Entry.{entry_of}
 use Rattle.record.proofs.Back.{count_all}
 use Rattle.ground.proofs.UpTo.{up_to_same, up_to_map}
 use Rattle.reader.specs.declared.Reading.{Reading}
-use Rattle.reader.specs.declared.Reading.TheVariants.{Good, Refused}
-use Rattle.reader.specs.Page.{problem_of, reading_of, records_in, lines_of, Reads}
+use Rattle.reader.specs.Page.{problem_of, reading_of, records_in, lines_of, Reads, good_reading}
 use Rattle.reader.proofs.Written.{read_back}
 use Rattle.reader.proofs.WellRead.{page_read, bytes_read, entries_read}
 use Rattle.lines.specs.Lines.{first_line, line_of}
@@ -27,8 +27,8 @@ use Rattle.answers.specs.Steps.{Read, whole_by, told_by, listed_by}
 
 -- ---- what a good reading wrote
 
-module _ {whole : Bool} {s d d' : List ℕ} {reading : Reading} (r : Reads whole s d reading d') {i g end : ℕ} (e : reading ≡ Good i g end) where
-  good : Reads whole s d (Good i g end) d'
+module _ {whole : Bool} {s d d' : List ℕ} {reading : Result Reading Refusal} (r : Reads whole s d reading d') {i g end : ℕ} (e : reading ≡ good_reading i g end) where
+  good : Reads whole s d (good_reading i g end) d'
   good = rw e at r
 
   pub few_read : i + g ≤ most_records
@@ -51,7 +51,7 @@ module _ {s bs : List ℕ} (read : Read s bs) where
       let n : count_of bs ≡ length (records_in s) = rw read.bytes_are (omega (arith, count_all (records_in s))) in
       rw (n, map-map) (up_to_same _ _ _ line_read ∙ up_to_map (records_in s) no_record _)
 
-  pub listed_is : (reading : Reading) → listed_by reading s bs ≡ listed reading s
+  pub listed_is : (reading : Result Reading Refusal) → listed_by reading s bs ≡ listed reading s
   unfolding listed_by
   listed_is reading = rw lines_are
 
@@ -65,15 +65,15 @@ answer_by Whole s = refl
 answer_by Check s = refl
 answer_by Rows s = refl
 
-module _ (way : Way) {s d' : List ℕ} {reading : Reading} (r : Reads (whole_by way) s (replicate record_room 0) reading d') where
+module _ (way : Way) {s d' : List ℕ} {reading : Result Reading Refusal} (r : Reads (whole_by way) s (replicate record_room 0) reading d') where
   told : answer_of way s ≡ answer_to reading (told_by way reading s)
   told = rw (r.told, length-replicate) (answer_by way s)
 
   -- a refusal, whatever is asked
-  pub refused_answer : {refusal : Refusal} → reading ≡ Refused refusal → answer_of way s ≡ first_line reading
+  pub refused_answer : {refusal : Refusal} → reading ≡ Err refusal → answer_of way s ≡ first_line reading
   unfolding first_line
   refused_answer e = told ∙ rw e
 
   -- and what is asked of a page that reads
-  pub good_answer : {i g end : ℕ} → reading ≡ Good i g end → answer_of way s ≡ told_by way (Good i g end) s
+  pub good_answer : {i g end : ℕ} → reading ≡ good_reading i g end → answer_of way s ≡ told_by way (good_reading i g end) s
   good_answer e = told ∙ rw e

@@ -1,17 +1,17 @@
 -- The whole answer to a page, from the bytes of its text: the listing, the line of the check, or the lines of the lowering.
-use Rattle.std.specs.Prelude.{Bool, true, false, List, ◌++◌, map, ℕ, length, get_or}
+use Rattle.std.specs.Prelude.{Bool, true, false, List, ◌++◌, map, ℕ, length, get_or, Result, Err, Ok}
 use Rattle.std.specs.Float.{nan}
+use Rattle.lowering.specs.Lower.{good_lowering}
+use Rattle.refusal.specs.declared.Refusal.{Refusal}
 use Rattle.ground.specs.Lists.{up_to}
 use Rattle.refusal.specs.Refusal.{refusal}
 use Rattle.refusal.specs.First.{Answer, passed, refused}
 use Rattle.record.specs.Record.{record_room}
 use Rattle.record.specs.Entry.{Entry}
 use Rattle.reader.specs.declared.Reading.{Reading}
-use Rattle.reader.specs.declared.Reading.TheVariants.{Good, Refused}
 use Rattle.reader.specs.Page.{reading_of, lines_of}
 use Rattle.drawing.specs.Faults.{Fault, number_of}
 use Rattle.drawing.specs.Check.{check_of, checked_of}
-use Rattle.lowering.specs.declared.Lowered.TheVariants as lowered
 use Rattle.lowering.specs.Slots.{slots, layout_of, values_of}
 use Rattle.lowering.specs.Rows.{rules_of, rows_of}
 use Rattle.rail.specs.Words.{joined}
@@ -21,14 +21,14 @@ use Rattle.answers.specs.declared.Way.{Way}
 use Rattle.answers.specs.declared.Way.TheVariants.{Plain, Whole, Check, Rows}
 
 -- a page that is refused is answered with its refusal, whatever is asked
-abbrev pub answer_to : Reading → List ℕ → List ℕ
-answer_to (Good instructions guesses end) told = told
-answer_to (Refused r) told = refused_line r
+abbrev pub answer_to : Result Reading Refusal → List ℕ → List ℕ
+answer_to (Ok reading) told = told
+answer_to (Err r) told = refused_line r
 
 -- ---- the listing
 
 -- what the reading gave, and a line for each record
-abbrev pub listed : Reading → List ℕ → List ℕ
+abbrev pub listed : Result Reading Refusal → List ℕ → List ℕ
 listed reading s = first_line reading ++ joined (map line_of (lines_of s))
 
 -- by the whole reading, or by the one that may leave text over
@@ -51,7 +51,7 @@ slot_lines es = up_to (length (slots es)) (λ j. slot_line j (get_or (values_of 
 abbrev pub drawing_lines : Answer Fault → List Entry → List ℕ
 drawing_lines (refused fault i) es = refused_line (refusal (number_of fault) i)
 drawing_lines passed es =
-    lowered_line (lowered.Good (layout_of es) (length (slots es)) (length (rules_of es))) ++ joined (slot_lines es) ++ joined (map row_line (rows_of es 0))
+    lowered_line (good_lowering (layout_of es) (length (slots es)) (length (rules_of es))) ++ joined (slot_lines es) ++ joined (map row_line (rows_of es 0))
 
 -- all of them, by the whole reading
 unfoldable pub lowering_of : List ℕ → List ℕ

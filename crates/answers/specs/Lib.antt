@@ -1,2 +1,3 @@
 pub mod Answers
+pub mod Responds
 pub mod Steps

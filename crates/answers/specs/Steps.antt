@@ -1,6 +1,7 @@
 -- How the code makes an answer: from the bytes of the records, and from what lowering wrote. It mirrors the code and need not be read.
-use Rattle.std.specs.Prelude.{◌≡◌, Bool, true, false, List, ◌++◌, ℕ, ◌/◌, ◌≤◌, length, get_or, Float}
+use Rattle.std.specs.Prelude.{◌≡◌, Bool, true, false, List, ◌++◌, ℕ, ◌/◌, ◌≤◌, length, get_or, Float, Result}
 use Rattle.std.specs.Float.{nan}
+use Rattle.refusal.specs.declared.Refusal.{Refusal}
 use Rattle.ground.specs.Lists.{up_to}
 use Rattle.record.specs.Record.{most_records, longest_text, encode_all}
 use Rattle.record.specs.Decode.{count_of, decode_at}
@@ -33,20 +34,20 @@ whole_by Check = true
 whole_by Rows = true
 
 -- what is told of a page with a good reading
-abbrev pub told_by : Way → Reading → List ℕ → List ℕ
+abbrev pub told_by : Way → Result Reading Refusal → List ℕ → List ℕ
 told_by Plain reading s = listed reading s
 told_by Whole reading s = listed reading s
 told_by Check reading s = checked_line (checked_of (lines_of s))
 told_by Rows reading s = drawing_lines (check_of (lines_of s)) (lines_of s)
 
 -- what a reading gave, and the lines of the records that bytes hold
-unfoldable pub listed_by : Reading → List ℕ → List ℕ → List ℕ
+unfoldable pub listed_by : Result Reading Refusal → List ℕ → List ℕ → List ℕ
 listed_by reading s bs = first_line reading ++ joined (up_to (count_of bs) (λ i. line_of (entry_of s (decode_at bs i))))
 
 -- what lowering told, and the lines of slots by their ids and values
-unfoldable pub slots_by : Lowered → List ℕ → List Float → List ℕ
+unfoldable pub slots_by : Result Lowered Refusal → List ℕ → List Float → List ℕ
 slots_by told ids values = lowered_line told ++ joined (up_to (length ids) (λ j. slot_line (get_or ids j 0) (get_or values j nan)))
 
 -- and the lines of the rows that bytes hold
-unfoldable pub lowered_by : Lowered → List ℕ → List Float → List ℕ → List ℕ
+unfoldable pub lowered_by : Result Lowered Refusal → List ℕ → List Float → List ℕ → List ℕ
 lowered_by told ids values bs = slots_by told ids values ++ joined (up_to (length bs / row_bytes) (λ k. row_line (decode_row (row_of bs k))))

@@ -1,42 +1,39 @@
-// The lines of a listing, one after the other: first measured, and then written.
-ghost use Rattle.std.specs.Prelude.{true};
-ghost use Rattle.rail.specs.declared.Place.TheVariants.{At};
-ghost use Rattle.rail.specs.Rail.{Prints};
-ghost use Rattle.rail.specs.Steps.{Adds};
+// A listing, which is printed whole: what a reading gave, and a line for each record.
+ghost use Rattle.rail.specs.Rail.{Printed};
 ghost use Rattle.answers.specs.Steps.{listed_by};
 
-use rail::Place;
+use rail::{Piece, Rail};
 use reader::Reading;
 use record::SIZE;
+use refusal::Refusal;
 
-// Adds what a reading gave and a line for each record.
-fn add(
-    text: &[u8],
-    reading: Reading,
-    records: &[u8],
-    out: &mut [u8],
-    write: bool,
-    p: Place,
-) -> Place
-    ensures { Adds write out.old p (listed_by reading text.now records.now) result out.new }
-{
-    let mut n = lines::first_line(reading, out, write, p);
-    let count = records.len() / SIZE;
-    let mut i = 0;
-    while i < count {
-        n = lines::record_line(text, records, i, out, write, n);
-        i += 1;
-    }
-    n
+// What a reading gave, over its text and the bytes of its records.
+#[derive(Clone, Copy)]
+struct Listing<'a> {
+    text: &'a [u8],
+    reading: Result<Reading, Refusal>,
+    records: &'a [u8],
 }
 
-// Writes them where there is room for all.
-pub(crate) fn print(text: &[u8], reading: Reading, records: &[u8], out: &mut [u8]) -> Place
-    ensures { Prints true out.old (At 0) (listed_by reading text.now records.now) result out.new }
+impl Piece for Listing<'_> {
+    ghost bytes = { λ l. listed_by l.reading l.text.now l.records.now };
+
+    fn add(&self, rail: &mut Rail) {
+        lines::first_line(self.reading, rail);
+        for i in 0..self.records.len() / SIZE {
+            lines::record_line(self.text, self.records, i, rail);
+        }
+    }
+}
+
+// Prints a listing where there is room for all of it.
+pub(crate) fn print(text: &[u8], reading: Result<Reading, Refusal>, records: &[u8], rail: &mut Rail)
+    ensures { Printed rail.old (listed_by reading text.now records.now) rail.new }
 {
-    let m = add(text, reading, records, out, false, Place::At(0));
-    let Place::At(_) = m else {
-        return m;
+    let listing = Listing {
+        text,
+        reading,
+        records,
     };
-    add(text, reading, records, out, true, Place::At(0))
+    rail.whole(&listing);
 }

@@ -1,12 +1,11 @@
 -- What asking a record for a label or an angle gives back (docs/FORMAT.md, "Record"). The record is judged by itself.
-use Rattle.std.specs.Prelude.{cond, ◌&&◌, List, [], ℕ, ltb, eqb}
+use Rattle.std.specs.Prelude.{cond, ◌&&◌, List, [], ℕ, ltb, eqb, Result, Ok, Err}
 use Rattle.std.specs.Float.{binary64}
 use Rattle.std.specs.Float.Ieee.{of_bits}
+use Rattle.refusal.specs.declared.Refusal.{Refusal}
 use Rattle.record.specs.declared.Record.{Record}
 use Rattle.ask.specs.declared.Angle.{Angle}
 use Rattle.ask.specs.declared.Angle.TheVariants.{Degrees, Radians}
-use Rattle.ask.specs.declared.Asked.{Asked}
-use Rattle.ask.specs.declared.Asked.TheVariants as asked
 use Rattle.kinds.specs.Kinds.{kind_at, angle}
 use Rattle.record.specs.Decode.{decode}
 use Rattle.record.specs.Entry.{Label, view_of, named}
@@ -34,6 +33,6 @@ abbrev pub angle_in : Record → Angle
 angle_in r = cond (eqb r.third degrees) (Degrees (of_bits binary64 r.x)) (Radians (of_bits binary64 r.x))
 
 -- the angle of a good record of the kind that has one; any other record gets 30 at 0
-unfoldable pub angle_of : List ℕ → List ℕ → Asked
+unfoldable pub angle_of : List ℕ → List ℕ → Result Angle Refusal
 angle_of text b =
-    cond (good_test text b && eqb (kind_at (decode b).kind).number angle) (asked.Angle (angle_in (decode b))) (asked.Refused (malformed_at 0))
+    cond (good_test text b && eqb (kind_at (decode b).kind).number angle) (Ok (angle_in (decode b))) (Err (malformed_at 0))

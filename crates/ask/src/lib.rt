@@ -12,7 +12,7 @@ use record::sound::good_kind;
 use record::{Record, View};
 use refusal::Refusal;
 
-// The third byte of an angle in degrees.
+// The third byte of an angle in degrees: a record's byte, which `decode` hands on as it is.
 const DEGREES: u8 = 1;
 
 // An angle with its number.
@@ -20,13 +20,6 @@ const DEGREES: u8 = 1;
 pub enum Angle {
     Degrees(f64),
     Radians(f64),
-}
-
-// What asking for an angle gives back.
-#[derive(Clone, Copy)]
-pub enum Asked {
-    Angle(Angle),
-    Refused(Refusal),
 }
 
 // The part that label q of a record names; an empty one for a bad record or label number.
@@ -67,12 +60,12 @@ fn angle_in(r: Record) -> Angle
 }
 
 // The angle of a good record that has one; any other record gets 30 at 0.
-pub fn angle_of(text: &[u8], bytes: &[u8]) -> Asked
+pub fn angle_of(text: &[u8], bytes: &[u8]) -> Result<Angle, Refusal>
     ensures { result ≡ angle_of text.now bytes.now }
 {
     let kind = good_kind(text, bytes);
     if kinds::cell_of(kind, kinds::SORT) != kinds::ANGLE {
-        return Asked::Refused(malformed_at(0));
+        return Err(malformed_at(0));
     }
-    Asked::Angle(angle_in(decode_record(bytes, 0)))
+    Ok(angle_in(decode_record(bytes, 0)))
 }

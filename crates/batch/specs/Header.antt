@@ -1,9 +1,9 @@
 -- The header line of a batch's block: a word, a blank and a number of bytes.
-use Rattle.std.specs.Prelude.{ℕ, ◌+◌, ◌-◌, ◌*◌, cond, ◌||◌, List, [], ◌∷◌, length, drop, nat_le, nat_lt}
+use Rattle.std.specs.Prelude.{ℕ, ◌+◌, ◌-◌, ◌*◌, cond, ◌||◌, List, [], ◌∷◌, length, drop, nat_le, nat_lt, Option, None, Some}
 use Rattle.ground.specs.Words.{bytes}
 use Rattle.text.specs.Text.{starts}
 use Rattle.batch.specs.declared.Header.{Header}
-use Rattle.batch.specs.declared.Header.TheVariants.{Case, List as Whole, Check, Rows, Bad}
+use Rattle.batch.specs.declared.Header.TheVariants.{Case, List as Whole, Check, Rows}
 
 -- the most bytes of a text
 abbrev pub most_bytes : ℕ
@@ -30,11 +30,15 @@ size_after n (b ∷ s) = size_after (one_more n b) s
 unfoldable pub size_written : List ℕ → ℕ
 size_written s = cond (nat_le (length s) (digits_start s)) too_many (size_after 0 (drop (digits_start s) s))
 
--- what a header line says
-unfoldable pub header_of : List ℕ → Header
+-- a number that is no larger than the most, or none
+abbrev pub sized : ℕ → Option ℕ
+sized n = cond (nat_lt most_bytes n) None (Some n)
+
+-- what a header line says, or none
+unfoldable pub header_of : List ℕ → Option Header
 header_of s =
-    cond (nat_lt most_bytes (size_written s)) Bad
-    (cond (starts (bytes "CASE ") s) (Case (size_written s))
-    (cond (starts (bytes "LIST ") s) (Whole (size_written s))
-    (cond (starts (bytes "CHECK ") s) (Check (size_written s))
-    (cond (starts (bytes "ROWS ") s) (Rows (size_written s)) Bad))))
+    cond (nat_lt most_bytes (size_written s)) None
+    (cond (starts (bytes "CASE ") s) (Some (Case (size_written s)))
+    (cond (starts (bytes "LIST ") s) (Some (Whole (size_written s)))
+    (cond (starts (bytes "CHECK ") s) (Some (Check (size_written s)))
+    (cond (starts (bytes "ROWS ") s) (Some (Rows (size_written s))) None))))

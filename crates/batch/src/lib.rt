@@ -1,103 +1,77 @@
 // The header line of a batch's block: what is asked of the text that follows, and its length. `line` has what other lines are read by.
 #![tactic(auto)]
 
-ghost use Rattle.std.specs.Prelude.{◌≡◌};
-ghost use Rattle.text.specs.Text.{starts};
-ghost use Rattle.batch.specs.Header.{one_more, digits_start, size_written, header_of};
-
-use text::Stand;
+ghost use Rattle.std.specs.Prelude.{◌≡◌, ◌≤◌};
+ghost use Rattle.batch.specs.Header.{sized, one_more, digits_start, size_written, header_of};
 
 pub mod line;
 
-// The most bytes of a text, and what stands for any number that is larger.
+// The most bytes of a text.
 pub const MOST: usize = 65_536;
 
-const TOO_MANY: usize = 65_537;
-
-// What a header line says: a text of so many bytes, to be listed by the plain reading or by the whole one, to be checked, to be
-// lowered; or nothing.
+// What a header line says: a text of so many bytes, to be listed by the plain reading or by the whole one, to be checked, or to be
+// lowered.
 #[derive(Clone, Copy)]
 pub enum Header {
     Case(usize),
     List(usize),
     Check(usize),
     Rows(usize),
-    Bad,
 }
 
-// Whether a line starts with a word.
-fn begins(line: &[u8], w: &[u8]) -> bool
-    ensures { result ≡ starts w.now line.now }
+// A number with one digit more, where that is a digit and the number no larger than the most.
+#[tactic(auto, unfolding(crate::specs::Header::one_more))]
+fn one_more(n: usize, b: u8) -> Option<usize>
+    requires { n ≤ MOST }
+    ensures { result ≡ sized (one_more n b) }
 {
-    let s = text::word(line, Stand::At(0), w);
-    let Stand::At(_) = s else {
-        return false;
-    };
-    true
-}
-
-// A number with one digit more.
-fn one_more(n: usize, b: u8) -> usize
-    ensures { result ≡ one_more n b }
-{
-    if MOST < n {
-        return TOO_MANY;
+    if !b.is_ascii_digit() {
+        return None;
     }
-    if b < b'0' {
-        return TOO_MANY;
-    }
-    if b'9' < b {
-        return TOO_MANY;
-    }
-    n * 10 + ((b - 48) as usize)
+    let more = n * 10 + (b - b'0') as usize;
+    if more <= MOST { Some(more) } else { None }
 }
 
 // Where the digits begin.
+#[tactic(auto, using(crate::proofs::Laws::starts_is), unfolding(crate::specs::Header::digits_start))]
 fn digits_at(line: &[u8]) -> usize
     ensures { result ≡ digits_start line.now }
 {
-    if begins(line, b"CHECK ") {
-        return 6;
-    }
-    5
+    if line.starts_with(b"CHECK ") { 6 } else { 5 }
 }
 
-// The number that the digits of a line write.
-fn size_of(line: &[u8]) -> usize
-    ensures { result ≡ size_written line.now }
+// The number that the digits of a line write, of which there is at least one.
+fn size_of(line: &[u8]) -> Option<usize>
+    ensures { result ≡ sized (size_written line.now) }
 {
     let at = digits_at(line);
     if line.len() <= at {
-        return TOO_MANY;
+        return None;
     }
     let mut n = 0;
-    let mut i = at;
-    while i < line.len() {
-        n = one_more(n, line[i]);
-        i += 1;
+    for b in &line[at..] {
+        n = one_more(n, *b)?;
     }
-    n
+    Some(n)
 }
 
 // What a header line says, from its bytes without the new line.
-pub fn read_header(line: &[u8]) -> Header
+#[tactic(auto, using(crate::proofs::Laws::starts_is), unfolding(crate::specs::Header::header_of))]
+pub fn read_header(line: &[u8]) -> Option<Header>
     ensures { result ≡ header_of line.now }
 {
-    let n = size_of(line);
-    if MOST < n {
-        return Header::Bad;
+    let n = size_of(line)?;
+    if line.starts_with(b"CASE ") {
+        return Some(Header::Case(n));
     }
-    if begins(line, b"CASE ") {
-        return Header::Case(n);
+    if line.starts_with(b"LIST ") {
+        return Some(Header::List(n));
     }
-    if begins(line, b"LIST ") {
-        return Header::List(n);
+    if line.starts_with(b"CHECK ") {
+        return Some(Header::Check(n));
     }
-    if begins(line, b"CHECK ") {
-        return Header::Check(n);
+    if line.starts_with(b"ROWS ") {
+        return Some(Header::Rows(n));
     }
-    if begins(line, b"ROWS ") {
-        return Header::Rows(n);
-    }
-    Header::Bad
+    None
 }

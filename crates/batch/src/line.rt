@@ -1,41 +1,36 @@
 // Lines that a program is asked by: where one ends, and the numbers among its words.
-ghost use Rattle.std.specs.Prelude.{◌≡◌, ◌<◌};
+ghost use Rattle.std.specs.Prelude.{◌≡◌, ◌<◌, ◌==◌, drop, position};
 ghost use Rattle.batch.specs.Line.{Until, word_after, one_digit, word_number};
 
 // A tenth of 2^64: a number above it has no room for one more digit.
 const TENTH: u64 = 1_844_674_407_370_955_161;
 
+// How far behind a place the first byte b stands, if there is one.
+fn ahead(text: &[u8], at: usize, b: u8) -> Option<usize>
+    ensures { result ≡ position (λ x. x == b) (drop at text.now) }
+{
+    text.iter().skip(at).position(|x| *x == b)
+}
+
 // The place of the first byte b from a place on, or the text's end.
 pub fn until(text: &[u8], at: usize, b: u8) -> usize
     ensures { Until text.now at b result }
 {
-    let mut i = at;
-    while i < text.len() {
-        if text[i] == b {
-            return i;
-        }
-        i += 1;
+    match ahead(text, at, b) {
+        Some(n) => at + n,
+        None => at.max(text.len()),
     }
-    i
 }
 
-// A number with one digit more, where it is asked for: any other byte is passed over.
+// A number with one digit more, where it is asked for: any other byte is passed over. The flag is the definition's, which `word_number` rests on.
+#[tactic(auto, unfolding(crate::specs::Line::one_digit))]
 fn one_digit(asked: bool, n: u64, b: u8) -> u64
     ensures { result ≡ one_digit asked n b }
 {
-    if !asked {
+    if !asked || !b.is_ascii_digit() || TENTH < n {
         return n;
     }
-    if b < b'0' {
-        return n;
-    }
-    if b'9' < b {
-        return n;
-    }
-    if TENTH < n {
-        return n;
-    }
-    std::num::wrapping_add_u64(n * 10, (b - 48) as u64)
+    (n * 10).wrapping_add((b - b'0') as u64)
 }
 
 // The word that a byte stands in, from the word before it.
@@ -52,11 +47,9 @@ pub fn number(line: &[u8], k: usize) -> u64
 {
     let mut word = 0;
     let mut n = 0;
-    let mut i = 0;
-    while i < line.len() {
-        word = word_after(word, line[i]);
-        n = one_digit(word == k, n, line[i]);
-        i += 1;
+    for b in line {
+        word = word_after(word, *b);
+        n = one_digit(word == k, n, *b);
     }
     n
 }

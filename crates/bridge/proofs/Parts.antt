@@ -1,9 +1,9 @@
 -- The start and length that are told of a label name the label itself; and a number that is no stage's gives an impossible layout. A good record is whole,
 -- so that it is the one record of its bytes. Assumes nothing.
-use mathlib.Core.Path.{◌≡◌, refl, sym, subst}
+use mathlib.Core.Path.{◌≡◌, refl, sym, subst, ◌∙◌}
 use mathlib.Core.Bool.{Bool, true, false, cond}
 use mathlib.Core.List.{List, [], ◌∷◌}
-use Prim.Native.Nat.{ℕ, suc, ◌<◌}
+use Prim.Native.Nat.{ℕ, zero, suc, ◌+◌, ◌<◌}
 use native.Mathlib.Omega.{arith}
 use lib.Dec.{eqb}
 use lib.ListN.{length, take, drop, take-append-drop}
@@ -18,7 +18,11 @@ use Rattle.ask.specs.Ask.{label_of}
 use Rattle.record.proofs.Agree.{says_good}
 use Rattle.layout.specs.Refusals.{impossible}
 use Rattle.bridge.specs.Told.{start_told}
-use Rattle.bridge.specs.Given.{last_stage, layout_by}
+use Rattle.layout.specs.declared.Stage.{Stage}
+use Rattle.layout.specs.declared.Stage.TheVariants.{Done}
+use Rattle.layout.specs.Slots.{most_shapes, stage_numbered}
+use Rattle.std.specs.Prelude.{Some, None}
+use Rattle.bridge.specs.Given.{last_stage, stage_by, points_by, layout_by}
 
 -- ---- labels
 
@@ -54,3 +58,26 @@ label_there text b q =
 pub no_such_stage : (points circles arcs s : ℕ) → last_stage < s → impossible (layout_by points circles arcs s) ≡ true
 unfolding layout_by impossible
 no_such_stage points circles arcs s h = rw (lt-ltb last_stage s h)
+
+-- past the last number there is no stage
+past : (s : ℕ) → last_stage < s → (stage_numbered s ≡ None) × (stage_by s ≡ Done)
+past s h =
+    let a : eqb s 0 ≡ false = ne_eqb s 0 (λ e. omega arith) in
+    let b : eqb s 1 ≡ false = ne_eqb s 1 (λ e. omega arith) in
+    let c : eqb s 2 ≡ false = ne_eqb s 2 (λ e. omega arith) in
+    (rw (a, b, c, ne_eqb s 3 (λ e. omega arith)), rw (a, b, c))
+
+-- the stage that has a number is the one that is meant
+pub known_stage : (points s : ℕ) (t : Stage) → stage_numbered s ≡ Some t → (points ≡ points_by points s) × (t ≡ stage_by s)
+known_stage points zero t e = (refl, cc)
+known_stage points (suc zero) t e = (refl, cc)
+known_stage points (suc (suc zero)) t e = (refl, cc)
+known_stage points (suc (suc (suc zero))) t e = (refl, cc)
+known_stage points (suc (suc (suc (suc n)))) t e = let none : None ≡ Some t = sym (past (suc (suc (suc (suc n)))) (omega arith)).0 ∙ e in absurd cc
+
+pub unknown_stage : (points s : ℕ) → stage_numbered s ≡ None → (most_shapes + 1 ≡ points_by points s) × (Done ≡ stage_by s)
+unknown_stage points zero e = absurd cc
+unknown_stage points (suc zero) e = absurd cc
+unknown_stage points (suc (suc zero)) e = absurd cc
+unknown_stage points (suc (suc (suc zero))) e = absurd cc
+unknown_stage points (suc (suc (suc (suc n)))) e = (rw (lt-ltb last_stage (suc (suc (suc (suc n)))) (omega arith)), sym (past (suc (suc (suc (suc n)))) (omega arith)).1)

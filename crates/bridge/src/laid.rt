@@ -1,115 +1,107 @@
-// The answers about layouts as a code and six numbers.
-ghost use Rattle.std.specs.Prelude.{◌≡◌};
-ghost use Rattle.bridge.specs.Told.{pushed_told, stepped_told, point_ids_told, circle_ids_told, arc_ids_told, point_told, circle_told, arc_told};
+// The answers about layouts as six numbers.
+ghost use Rattle.bridge.specs.Told.{pushed_parts, stepped_parts, point_ids_parts, circle_ids_parts, arc_ids_parts, point_parts, circle_parts, arc_parts};
 
-use crate::told::{Told, good, layout_parts, refused};
+use crate::PARTS;
+use crate::told::{Parts, layout_parts};
 use bits::to_bits;
-use layout::{ArcIds, ArcRead, CircleIds, CircleRead, PointIds, PointRead, Pushed, Stepped};
+use layout::{Arc, ArcVars, Circle, CircleVars, Layout, Point, PointVars, Pushed};
 
 // What a push answers.
-pub(crate) fn pushed_told(r: Pushed) -> Told
-    ensures { result ≡ pushed_told r }
-{
-    match r {
-        Pushed::Good(layout, next) => good(layout_parts(layout, next as u64, 0)),
-        Pushed::Refused(why) => refused(why),
+impl Parts for Pushed {
+    ghost parts = { pushed_parts };
+
+    fn parts(self) -> [u64; PARTS] {
+        layout_parts(self.layout, self.next as u64, 0)
     }
 }
 
 // What `done` answers.
-pub(crate) fn stepped_told(r: Stepped) -> Told
-    ensures { result ≡ stepped_told r }
-{
-    match r {
-        Stepped::Good(layout) => good(layout_parts(layout, 0, 0)),
-        Stepped::Refused(why) => refused(why),
+impl Parts for Layout {
+    ghost parts = { stepped_parts };
+
+    fn parts(self) -> [u64; PARTS] {
+        layout_parts(self, 0, 0)
     }
 }
 
-// What the lookup of a point answers.
-pub(crate) fn point_ids_told(r: PointIds) -> Told
-    ensures { result ≡ point_ids_told r }
-{
-    match r {
-        PointIds::Found(v) => good([v.x as u64, v.y as u64, 0, 0, 0, 0]),
-        PointIds::Refused(why) => refused(why),
+// The ids of a point.
+impl Parts for PointVars {
+    ghost parts = { point_ids_parts };
+
+    fn parts(self) -> [u64; PARTS] {
+        [self.x as u64, self.y as u64, 0, 0, 0, 0]
     }
 }
 
-// What the lookup of a circle answers.
-pub(crate) fn circle_ids_told(r: CircleIds) -> Told
-    ensures { result ≡ circle_ids_told r }
-{
-    match r {
-        CircleIds::Found(v) => good([
-            v.center.x as u64,
-            v.center.y as u64,
-            v.radius as u64,
+// The ids of a circle.
+impl Parts for CircleVars {
+    ghost parts = { circle_ids_parts };
+
+    fn parts(self) -> [u64; PARTS] {
+        [
+            self.center.x as u64,
+            self.center.y as u64,
+            self.radius as u64,
             0,
             0,
             0,
-        ]),
-        CircleIds::Refused(why) => refused(why),
+        ]
     }
 }
 
-// What the lookup of an arc answers.
-pub(crate) fn arc_ids_told(r: ArcIds) -> Told
-    ensures { result ≡ arc_ids_told r }
-{
-    match r {
-        ArcIds::Found(v) => good([
-            v.start.x as u64,
-            v.start.y as u64,
-            v.end.x as u64,
-            v.end.y as u64,
-            v.center.x as u64,
-            v.center.y as u64,
-        ]),
-        ArcIds::Refused(why) => refused(why),
+// The ids of an arc.
+impl Parts for ArcVars {
+    ghost parts = { arc_ids_parts };
+
+    fn parts(self) -> [u64; PARTS] {
+        [
+            self.start.x as u64,
+            self.start.y as u64,
+            self.end.x as u64,
+            self.end.y as u64,
+            self.center.x as u64,
+            self.center.y as u64,
+        ]
     }
 }
 
-// What the readout of a point answers.
-pub(crate) fn point_told(r: PointRead) -> Told
-    ensures { result ≡ point_told r }
-{
-    match r {
-        PointRead::Found(p) => good([to_bits(p.x), to_bits(p.y), 0, 0, 0, 0]),
-        PointRead::Refused(why) => refused(why),
+// A point, read out.
+impl Parts for Point {
+    ghost parts = { point_parts };
+
+    fn parts(self) -> [u64; PARTS] {
+        [to_bits(self.x), to_bits(self.y), 0, 0, 0, 0]
     }
 }
 
-// What the readout of a circle answers.
-pub(crate) fn circle_told(r: CircleRead) -> Told
-    ensures { result ≡ circle_told r }
-{
-    match r {
-        CircleRead::Found(c) => good([
-            to_bits(c.center.x),
-            to_bits(c.center.y),
-            to_bits(c.radius),
+// A circle, read out.
+impl Parts for Circle {
+    ghost parts = { circle_parts };
+
+    fn parts(self) -> [u64; PARTS] {
+        [
+            to_bits(self.center.x),
+            to_bits(self.center.y),
+            to_bits(self.radius),
             0,
             0,
             0,
-        ]),
-        CircleRead::Refused(why) => refused(why),
+        ]
     }
 }
 
-// What the readout of an arc answers.
-pub(crate) fn arc_told(r: ArcRead) -> Told
-    ensures { result ≡ arc_told r }
-{
-    match r {
-        ArcRead::Found(a) => good([
-            to_bits(a.a.x),
-            to_bits(a.a.y),
-            to_bits(a.b.x),
-            to_bits(a.b.y),
-            to_bits(a.center.x),
-            to_bits(a.center.y),
-        ]),
-        ArcRead::Refused(why) => refused(why),
+// An arc, read out.
+impl Parts for Arc {
+    ghost parts = { arc_parts };
+
+    fn parts(self) -> [u64; PARTS] {
+        [
+            to_bits(self.a.x),
+            to_bits(self.a.y),
+            to_bits(self.b.x),
+            to_bits(self.b.y),
+            to_bits(self.center.x),
+            to_bits(self.center.y),
+        ]
     }
 }

@@ -8,7 +8,7 @@ ghost use Rattle.lowering.specs.Lower.{Lowers};
 ghost use Rattle.bridge.specs.Told.{Tells, reading_told, checked_told, lowered_told, asked_told, start_told, label_told};
 
 use crate::PARTS;
-use crate::told::{asked_told, checked_told, good, lowered_told, reading_told, tell};
+use crate::told::{answer, good, tell};
 use ask::{angle_of, label};
 use drawing::check;
 use lowering::lower;
@@ -21,7 +21,7 @@ use record::decode::decode_record;
 pub extern "C" fn hunposeto_read(text: &[u8], records: &mut [u8], out: &mut [u64; PARTS]) -> u64
     ensures { Tells (λ x. Reads false text.now records.old x records.new) reading_told result out.new }
 {
-    tell(reading_told(parse_problem(text, records)), out)
+    tell(answer(parse_problem(text, records)), out)
 }
 
 // The same, where the page has to be the whole text.
@@ -33,7 +33,7 @@ pub extern "C" fn hunposeto_read_whole(
 ) -> u64
     ensures { Tells (λ x. Reads true text.now records.old x records.new) reading_told result out.new }
 {
-    tell(reading_told(parse_whole(text, records)), out)
+    tell(answer(parse_whole(text, records)), out)
 }
 
 // Where label q of a record starts, and 0 where there is no such label or it is empty.
@@ -72,7 +72,7 @@ pub extern "C" fn hunposeto_label(
 pub extern "C" fn hunposeto_angle(text: &[u8], bytes: &[u8], out: &mut [u64; PARTS]) -> u64
     ensures { Tells (λ x. x ≡ angle_of text.now bytes.now) asked_told result out.new }
 {
-    tell(asked_told(angle_of(text, bytes)), out)
+    tell(answer(angle_of(text, bytes)), out)
 }
 
 // The check of a drawing.
@@ -80,7 +80,7 @@ pub extern "C" fn hunposeto_angle(text: &[u8], bytes: &[u8], out: &mut [u64; PAR
 pub extern "C" fn hunposeto_check(text: &[u8], records: &[u8], out: &mut [u64; PARTS]) -> u64
     ensures { Tells (λ x. x ≡ checked_of (entries text.now records.now)) checked_told result out.new }
 {
-    tell(checked_told(check(text, records)), out)
+    tell(answer(check(text, records)), out)
 }
 
 // Lowers a drawing from the next id.
@@ -96,8 +96,5 @@ pub extern "C" fn hunposeto_lower(
 ) -> u64
     ensures { Tells (λ x. Lowers (entries text.now records.now) next ids.old values.old rows.old x ids.new values.new rows.new) lowered_told result out.new }
 {
-    tell(
-        lowered_told(lower(text, records, next, ids, values, rows)),
-        out,
-    )
+    tell(answer(lower(text, records, next, ids, values, rows)), out)
 }

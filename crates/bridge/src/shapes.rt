@@ -1,59 +1,36 @@
 // Layouts: pushes, `done`, lookups of ids, and readout. A layout crosses as its three counts and the number of its stage: 0 points,
-// 1 circles, 2 arcs, 3 done. Another number is an impossible stage, told by 20.
+// 1 circles, 2 arcs, 3 done. Another number is an impossible stage, told by 20. The C interface knows no types of layout's: hence the
+// many numbers, and an export for each kind of shape.
 ghost use Rattle.std.specs.Prelude.{◌≡◌};
 ghost use Rattle.layout.specs.Push.{Push, state, done_of};
 ghost use Rattle.layout.specs.Look.{point_ids, circle_ids, arc_ids, arc_slot_ids, point_read, circle_read, arc_read};
-ghost use Rattle.bridge.specs.Given.{stage_by, points_by, layout_by, point_by, circle_by, arc_by};
+ghost use Rattle.bridge.specs.Given.{layout_by, point_by, circle_by, arc_by};
 ghost use Rattle.bridge.specs.Told.{Tells, pushed_told, stepped_told, point_ids_told, circle_ids_told, arc_ids_told, point_told, circle_told, arc_told};
 
 use crate::PARTS;
-use crate::laid::{
-    arc_ids_told, arc_told, circle_ids_told, circle_told, point_ids_told, point_told, pushed_told,
-    stepped_told,
-};
-use crate::told::tell;
-use layout::{Arc, Circle, Layout, MOST, Point, Stage};
+use crate::told::{answer, tell};
+use layout::{Arc, ArcVars, Circle, CircleVars, Layout, MOST, Point, PointVars, Stage};
 
-// The number of the last stage, and more points than there can be.
-const LAST: usize = 3;
-
+// More points than there can be.
 const TOO_MANY: usize = MOST + 1;
 
-// The stage with a number.
-fn stage_by(stage: usize) -> Stage
-    ensures { result ≡ stage_by stage }
-{
-    if stage == 0 {
-        return Stage::Points;
-    }
-    if stage == 1 {
-        return Stage::Circles;
-    }
-    if stage == 2 {
-        return Stage::Arcs;
-    }
-    Stage::Done
-}
-
-// So many points, too many where there is no such stage.
-fn points_by(points: usize, stage: usize) -> usize
-    ensures { result ≡ points_by points stage }
-{
-    if LAST < stage { TOO_MANY } else { points }
-}
-
-// The layout with these counts at this stage.
-#[tactic(auto, unfolding(crate::specs::Given::layout_by))]
+// The layout with these counts at the stage with a number; with no such stage, one that cannot be.
 fn layout_by(points: usize, circles: usize, arcs: usize, stage: usize) -> Layout
     ensures { result ≡ layout_by points circles arcs stage }
 {
-    let points = points_by(points, stage);
-    let stage = stage_by(stage);
-    Layout {
-        points,
-        circles,
-        arcs,
-        stage,
+    match Stage::numbered(stage) {
+        Some(stage) => Layout {
+            points,
+            circles,
+            arcs,
+            stage,
+        },
+        None => Layout {
+            points: TOO_MANY,
+            circles,
+            arcs,
+            stage: Stage::Done,
+        },
     }
 }
 
@@ -75,7 +52,7 @@ pub extern "C" fn hunposeto_push_point(
 {
     let shape = Point { x, y };
     tell(
-        pushed_told(layout_by(points, circles, arcs, stage).push_point(next, ids, values, shape)),
+        answer(layout_by(points, circles, arcs, stage).push(next, ids, values, shape)),
         out,
     )
 }
@@ -102,7 +79,7 @@ pub extern "C" fn hunposeto_push_circle(
         radius,
     };
     tell(
-        pushed_told(layout_by(points, circles, arcs, stage).push_circle(next, ids, values, shape)),
+        answer(layout_by(points, circles, arcs, stage).push(next, ids, values, shape)),
         out,
     )
 }
@@ -133,7 +110,7 @@ pub extern "C" fn hunposeto_push_arc(
         center: Point { x: cx, y: cy },
     };
     tell(
-        pushed_told(layout_by(points, circles, arcs, stage).push_arc(next, ids, values, shape)),
+        answer(layout_by(points, circles, arcs, stage).push(next, ids, values, shape)),
         out,
     )
 }
@@ -149,10 +126,7 @@ pub extern "C" fn hunposeto_done(
 ) -> u64
     ensures { Tells (λ x. x ≡ done_of (layout_by points circles arcs stage)) stepped_told result out.new }
 {
-    tell(
-        stepped_told(layout_by(points, circles, arcs, stage).done()),
-        out,
-    )
+    tell(answer(layout_by(points, circles, arcs, stage).done()), out)
 }
 
 // The ids of point i.
@@ -169,7 +143,7 @@ pub extern "C" fn hunposeto_point_ids(
     ensures { Tells (λ x. x ≡ point_ids (layout_by points circles arcs stage) ids.now i) point_ids_told result out.new }
 {
     tell(
-        point_ids_told(layout_by(points, circles, arcs, stage).point_ids(ids, i)),
+        answer(layout_by(points, circles, arcs, stage).look::<u32, PointVars>(ids, i)),
         out,
     )
 }
@@ -188,7 +162,7 @@ pub extern "C" fn hunposeto_circle_ids(
     ensures { Tells (λ x. x ≡ circle_ids (layout_by points circles arcs stage) ids.now i) circle_ids_told result out.new }
 {
     tell(
-        circle_ids_told(layout_by(points, circles, arcs, stage).circle_ids(ids, i)),
+        answer(layout_by(points, circles, arcs, stage).look::<u32, CircleVars>(ids, i)),
         out,
     )
 }
@@ -207,7 +181,7 @@ pub extern "C" fn hunposeto_arc_ids(
     ensures { Tells (λ x. x ≡ arc_ids (layout_by points circles arcs stage) ids.now i) arc_ids_told result out.new }
 {
     tell(
-        arc_ids_told(layout_by(points, circles, arcs, stage).arc_ids(ids, i)),
+        answer(layout_by(points, circles, arcs, stage).arc_ids(ids, i)),
         out,
     )
 }
@@ -226,7 +200,7 @@ pub extern "C" fn hunposeto_arc_slot_ids(
     ensures { Tells (λ x. x ≡ arc_slot_ids (layout_by points circles arcs stage) ids.now i) arc_ids_told result out.new }
 {
     tell(
-        arc_ids_told(layout_by(points, circles, arcs, stage).arc_slot_ids(ids, i)),
+        answer(layout_by(points, circles, arcs, stage).look::<u32, ArcVars>(ids, i)),
         out,
     )
 }
@@ -245,7 +219,7 @@ pub extern "C" fn hunposeto_point(
     ensures { Tells (λ x. x ≡ point_read (layout_by points circles arcs stage) values.now i) point_told result out.new }
 {
     tell(
-        point_told(layout_by(points, circles, arcs, stage).point(values, i)),
+        answer(layout_by(points, circles, arcs, stage).look::<f64, Point>(values, i)),
         out,
     )
 }
@@ -264,7 +238,7 @@ pub extern "C" fn hunposeto_circle(
     ensures { Tells (λ x. x ≡ circle_read (layout_by points circles arcs stage) values.now i) circle_told result out.new }
 {
     tell(
-        circle_told(layout_by(points, circles, arcs, stage).circle(values, i)),
+        answer(layout_by(points, circles, arcs, stage).look::<f64, Circle>(values, i)),
         out,
     )
 }
@@ -283,7 +257,7 @@ pub extern "C" fn hunposeto_arc(
     ensures { Tells (λ x. x ≡ arc_read (layout_by points circles arcs stage) values.now i) arc_told result out.new }
 {
     tell(
-        arc_told(layout_by(points, circles, arcs, stage).arc(values, i)),
+        answer(layout_by(points, circles, arcs, stage).look::<f64, Arc>(values, i)),
         out,
     )
 }

@@ -1,18 +1,17 @@
 // The answers about pages and records as a code and six numbers.
-ghost use Rattle.std.specs.Prelude.{◌≡◌};
-ghost use Rattle.layout.specs.Slots.{stage_number};
-ghost use Rattle.bridge.specs.Told.{good_told, refused_told, layout_parts, reading_told, checked_told, lowered_told, angle_parts, asked_told};
+ghost use Rattle.std.specs.Prelude.{◌≡◌, ℕ, List};
+ghost use Rattle.bridge.specs.Told.{good_told, refused_told, told_by, layout_parts, reading_parts, checked_parts, lowered_parts, angle_parts};
 
 use crate::PARTS;
-use ask::{Angle, Asked};
+use ask::Angle;
 use bits::to_bits;
 use drawing::Checked;
-use layout::{Layout, Stage};
+use layout::Layout;
 use lowering::Lowered;
 use reader::Reading;
 use refusal::Refusal;
 
-// A code and six numbers.
+// A code and six numbers, as the C interface has every answer.
 #[derive(Clone, Copy)]
 pub struct Told {
     pub code: u64,
@@ -46,15 +45,22 @@ pub(crate) fn tell(told: Told, out: &mut [u64; PARTS]) -> u64
     told.code
 }
 
-// The number of a stage.
-fn stage_number(s: Stage) -> u64
-    ensures { result ≡ stage_number s }
+// An answer that tells six numbers where it is good.
+pub(crate) trait Parts: Copy {
+    ghost parts: { Self → List ℕ };
+
+    // The numbers.
+    fn parts(self) -> [u64; PARTS]
+        ensures { result ≡ parts self };
+}
+
+// What is told: the numbers of a good answer, or the refusal.
+pub(crate) fn answer<T: Parts>(r: Result<T, Refusal>) -> Told
+    ensures { result ≡ told_by T.parts r }
 {
-    match s {
-        Stage::Points => 0,
-        Stage::Circles => 1,
-        Stage::Arcs => 2,
-        Stage::Done => 3,
+    match r {
+        Ok(x) => good(x.parts()),
+        Err(why) => refused(why),
     }
 }
 
@@ -62,84 +68,63 @@ fn stage_number(s: Stage) -> u64
 pub(crate) fn layout_parts(l: Layout, e: u64, f: u64) -> [u64; PARTS]
     ensures { result ≡ layout_parts l e f }
 {
-    let stage = l.stage;
-    let number = stage_number(stage);
     [
         l.points as u64,
         l.circles as u64,
         l.arcs as u64,
-        number,
+        l.stage.number() as u64,
         e,
         f,
     ]
 }
 
-// What a reading answers.
-pub(crate) fn reading_told(r: Reading) -> Told
-    ensures { result ≡ reading_told r }
-{
-    match r {
-        Reading::Good {
+// A reading.
+impl Parts for Reading {
+    ghost parts = { reading_parts };
+
+    fn parts(self) -> [u64; PARTS] {
+        let Reading {
             instructions,
             guesses,
             end,
-        } => good([instructions as u64, guesses as u64, end as u64, 0, 0, 0]),
-        Reading::Refused(why) => refused(why),
+        } = self;
+        [instructions as u64, guesses as u64, end as u64, 0, 0, 0]
     }
 }
 
-// What the check answers.
-pub(crate) fn checked_told(r: Checked) -> Told
-    ensures { result ≡ checked_told r }
-{
-    match r {
-        Checked::Passed {
-            points,
-            circles,
-            arcs,
-            rows,
-        } => good([
-            points as u64,
-            circles as u64,
-            arcs as u64,
-            rows as u64,
+// What the check counts.
+impl Parts for Checked {
+    ghost parts = { checked_parts };
+
+    fn parts(self) -> [u64; PARTS] {
+        [
+            self.points as u64,
+            self.circles as u64,
+            self.arcs as u64,
+            self.rows as u64,
             0,
             0,
-        ]),
-        Checked::Refused(why) => refused(why),
+        ]
     }
 }
 
-// What lowering answers.
-pub(crate) fn lowered_told(r: Lowered) -> Told
-    ensures { result ≡ lowered_told r }
-{
-    match r {
-        Lowered::Good { layout, next, rows } => good(layout_parts(
-            layout,
-            next as u64,
-            rows as u64,
-        )),
-        Lowered::Refused(why) => refused(why),
+// A lowering.
+impl Parts for Lowered {
+    ghost parts = { lowered_parts };
+
+    fn parts(self) -> [u64; PARTS] {
+        layout_parts(self.layout, self.next as u64, self.rows as u64)
     }
 }
 
 // An angle: 1 or 2, and the bits of its number.
-fn angle_parts(a: Angle) -> [u64; PARTS]
-    ensures { result ≡ angle_parts a }
-{
-    match a {
-        Angle::Degrees(x) => [1, to_bits(x), 0, 0, 0, 0],
-        Angle::Radians(x) => [2, to_bits(x), 0, 0, 0, 0],
-    }
-}
+impl Parts for Angle {
+    ghost parts = { angle_parts };
 
-// What is asked of a record about its angle.
-pub(crate) fn asked_told(r: Asked) -> Told
-    ensures { result ≡ asked_told r }
-{
-    match r {
-        Asked::Angle(angle) => good(angle_parts(angle)),
-        Asked::Refused(why) => refused(why),
+    fn parts(self) -> [u64; PARTS] {
+        match self {
+            Angle::Degrees(x) => [1, to_bits(x), 0, 0, 0, 0],
+            Angle::Radians(x) => [2, to_bits(x), 0, 0, 0, 0],
+        }
     }
 }

@@ -2,20 +2,9 @@
 // may be, no more is read than shows that.
 #![tactic(auto)]
 
-use answers::LONGEST;
-use rail::Place;
+use answers::Way;
 use std::io;
-use std::io::Write;
-
-// The most bytes that are read: more than a page may have.
-const MOST: usize = 65536;
 
 fn main(rt: HostRuntime) -> io::Result<()> {
-    let mut input = [0u8; MOST];
-    let n = stream::read_full(&mut rt.stdin(), &mut input)?;
-    let mut out = [0u8; LONGEST];
-    let Place::At(end) = answers::checking(&input[..n], &mut out) else {
-        return rt.stdout().write_all(b"answer too long\n");
-    };
-    rt.stdout().write_all(&out[..end])
+    answers::streams::respond(&mut rt.stdin(), &mut rt.stdout(), Way::Check)
 }

@@ -1,5 +1,6 @@
 -- From the bytes of a page to its rows: the records that the whole reading writes are the lines of the page, with labels as their text, and 30 holds of
 -- none of them; where 31 to 35 hold of none either, lowering gives each rule of the page the ids of the shapes that its line names. Assumes nothing.
+use Rattle.std.specs.Prelude.{Result}
 use mathlib.Core.Path.{◌≡◌, refl}
 use mathlib.Core.Bool.{true}
 use mathlib.Core.List.Memᴰ
@@ -7,15 +8,14 @@ use mathlib.Core.List.{List}
 use Prim.Native.Nat.{ℕ, ◌+◌, ◌*◌}
 use lib.ListN.{length}
 use lib.Ieee.{Float}
+use Rattle.refusal.specs.declared.Refusal.{Refusal}
 use Rattle.refusal.specs.First.{Nowhere, NoneHolds}
 use Rattle.record.specs.Formed.{places, entries}
-use Rattle.reader.specs.declared.Reading.TheVariants as reading
-use Rattle.reader.specs.Page.{lines_of, Reads}
+use Rattle.reader.specs.Page.{lines_of, Reads, good_reading}
 use Rattle.reader.proofs.WellRead.{written_in}
-use Rattle.drawing.specs.declared.Checked.TheVariants as checked
 use Rattle.drawing.specs.Needs.{point, circle, arc}
 use Rattle.drawing.specs.Faults.{Fault, malformed, declared_twice, wrong_label, no_such_part, guessed_twice, without_guess, behind30, Holds}
-use Rattle.drawing.specs.Check.{checked_of}
+use Rattle.drawing.specs.Check.{checked_of, good_check}
 use Rattle.drawing.proofs.Told.{passed_iff}
 use Rattle.lowering.specs.declared.Lowered.{Lowered}
 use Rattle.lowering.specs.Slots.{how_many}
@@ -24,12 +24,12 @@ use Rattle.lowering.specs.Demand.{EnoughFor, rules_before, LowersWell}
 use Rattle.lowering.proofs.Demand.{lowers_well}
 use Rattle.claims.proofs.PageRefused.{lines_are, never}
 
-module _ (text buffer : List ℕ) (instructions guesses end : ℕ) (buffer' : List ℕ) (read : Reads true text buffer (reading.Good instructions guesses end) buffer') where
+module _ (text buffer : List ℕ) (instructions guesses end : ℕ) (buffer' : List ℕ) (read : Reads true text buffer (good_reading instructions guesses end) buffer') where
   -- a page whose lines pass the check, with enough ids left and enough room lent, is lowered well
   pub page_to_rows : (P C A R next : ℕ) (ids : List ℕ) (values : List Float) (rows : List ℕ)
-      → checked_of (lines_of text) ≡ checked.Passed P C A R
+      → checked_of (lines_of text) ≡ good_check P C A R
       → EnoughFor (2 * P + 3 * C + 6 * A) R (room_in next ids values rows)
-      → (r : Lowered) (ids' : List ℕ) (values' : List Float) (rows' : List ℕ)
+      → (r : Result Lowered Refusal) (ids' : List ℕ) (values' : List Float) (rows' : List ℕ)
       → Lowers (entries text (written_in instructions guesses buffer')) next ids values rows r ids' values' rows'
       → LowersWell (lines_of text) P C A R next r ids' values' rows'
   page_to_rows P C A R next ids values rows passes enough r ids' values' rows' lowered =
@@ -53,7 +53,7 @@ module _ (text buffer : List ℕ) (instructions guesses end : ℕ) (buffer' : Li
       let A = how_many arc (lines_of text) in
       let R = rules_before (lines_of text) (length (lines_of text)) in
       EnoughFor (2 * P + 3 * C + 6 * A) R (room_in next ids values rows)
-      → (r : Lowered) (ids' : List ℕ) (values' : List Float) (rows' : List ℕ)
+      → (r : Result Lowered Refusal) (ids' : List ℕ) (values' : List Float) (rows' : List ℕ)
       → Lowers (entries text (written_in instructions guesses buffer')) next ids values rows r ids' values' rows'
       → LowersWell (lines_of text) P C A R next r ids' values' rows'
   faultless_to_rows none next ids values rows enough = page_to_rows _ _ _ _ next ids values rows ((passed_iff (lines_of text)).1 (no_fault none)) enough

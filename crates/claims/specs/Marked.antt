@@ -1,26 +1,26 @@
 -- The twelve marked cases of docs/FORMAT.md, (a) to (l), in one table: a text, what the whole reading tells of it, and the lines that are read.
-use Rattle.std.specs.Prelude.{true, List, [], ◌∷◌, ◌++◌, ℕ, length}
+use Rattle.std.specs.Prelude.{true, List, [], ◌∷◌, ◌++◌, ℕ, length, Result, Err, Ok}
 use Prim.Native.String.{String}
+use Rattle.refusal.specs.declared.Refusal.{Refusal}
 use Rattle.ground.specs.Words.{bytes}
 use Rattle.refusal.specs.Refusal.{refusal}
 use Rattle.kinds.specs.Kinds.{pair_guess}
 use Rattle.record.specs.Entry.{Entry, entry_with}
 use Rattle.reader.specs.declared.Reading.{Reading}
-use Rattle.reader.specs.declared.Reading.TheVariants as reading
-use Rattle.reader.specs.Page.{reading_of, lines_of}
+use Rattle.reader.specs.Page.{reading_of, lines_of, good_reading}
 
 -- a text, what is told of it, and its lines, with labels as their text; a refused text has none
 pub record Case : Type 0 where
   pub text : List ℕ
-  pub told : Reading
+  pub told : Result Reading Refusal
   pub lines : List Entry
 
 -- ---- what the reader makes of a text
 
 -- the lines that a good reading writes
-abbrev pub lines_written : Reading → List Entry → List Entry
-lines_written (reading.Good instructions guesses end) lines = lines
-lines_written (reading.Refused r) lines = []
+abbrev pub lines_written : Result Reading Refusal → List Entry → List Entry
+lines_written (Ok reading) lines = lines
+lines_written (Err r) lines = []
 
 -- the whole reading of a text, with room for ten records
 abbrev pub case_of : List ℕ → Case
@@ -47,11 +47,11 @@ the_guess = entry_with pair_guess 0 ("p" ∷ []) 0x3ff0_0000_0000_0000 0x4000_00
 
 -- a page that is read up to its end: these lines, and the guess
 abbrev pub reads_to : String → ℕ → List Entry → Case
-reads_to first end lines = record { text = page first; told = reading.Good (length lines) 1 end; lines = lines ++ (the_guess ∷ []) }
+reads_to first end lines = record { text = page first; told = good_reading (length lines) 1 end; lines = lines ++ (the_guess ∷ []) }
 
 -- a text that is refused with a number at a place
 abbrev pub refuses : List ℕ → ℕ → ℕ → Case
-refuses text number place = record { text = text; told = reading.Refused (refusal number place); lines = [] }
+refuses text number place = record { text = text; told = Err (refusal number place); lines = [] }
 
 -- ---- the table
 

@@ -14,7 +14,7 @@ use lib.Ieee.Back.{round_whole}
 use lib.Ieee.Scale.{round_same}
 use Rattle.decimal.specs.declared.Scale.{Scale}
 use Rattle.decimal.specs.declared.Scale.TheVariants.{Times, Over}
-use Rattle.decimal.specs.declared.Carried.TheVariants.{Bits, Outside}
+use Rattle.std.specs.Prelude.{Some, None}
 use Rattle.decimal.specs.Decimal.{limit, power, power_of, fits, whole_number, signed, value_of, operated, Made, OneOperation, carried}
 use Rattle.decimal.proofs.Operations.{mul_whole, div_whole, neg_round, round_number}
 use Rattle.decimal.proofs.Powers.{ten_pos, power_exact}
@@ -66,17 +66,17 @@ value_number m (Over a) s = round_number binary64 s m (10 ^ a)
 
 -- ---- carried, or not
 module _ (m : ℕ) (k : Scale) (s : Bool) where
-  pub outside : fits m k ≡ false → carried m k s ≡ Outside
+  pub outside : fits m k ≡ false → carried m k s ≡ None
   unfolding carried
   outside e = rw e
 
-  pub outside_big : limit ≤ m → carried m k s ≡ Outside
+  pub outside_big : limit ≤ m → carried m k s ≡ None
   outside_big h = outside (rw (le-ltb m limit h))
 
-pub outside_times : (m a : ℕ) (s : Bool) → power < a → carried m (Times a) s ≡ Outside
+pub outside_times : (m a : ℕ) (s : Bool) → power < a → carried m (Times a) s ≡ None
 outside_times m a s h = outside m (Times a) s (rw (lt-leb a power h, and-false (ltb m limit)))
 
-pub outside_over : (m a : ℕ) (s : Bool) → power < a → carried m (Over a) s ≡ Outside
+pub outside_over : (m a : ℕ) (s : Bool) → power < a → carried m (Over a) s ≡ None
 outside_over m a s h = outside m (Over a) s (rw (lt-leb a power h, and-false (ltb m limit)))
 
 -- ---- zero
@@ -90,6 +90,6 @@ unfolding value_of
 value_zero (Times a) s = rw zero-mul
 value_zero (Over a) s = round_same binary64 s 0 (10 ^ a) 0 1 (ten_pos a) (zero-lt-suc 0) (rw (zero-mul 1, zero-mul (10 ^ a)))
 
-pub zero_keeps_sign : (k : Scale) (s : Bool) → power_of k ≤ power → carried 0 k s ≡ Bits (cond s (2 ^ 63) 0)
+pub zero_keeps_sign : (k : Scale) (s : Bool) → power_of k ≤ power → carried 0 k s ≡ Some (cond s (2 ^ 63) 0)
 unfolding carried
-zero_keeps_sign k s h = rw (le-leb (power_of k) power h) (ap Bits (ap (to_bits binary64) (value_zero k s) ∙ round_zero s))
+zero_keeps_sign k s h = rw (le-leb (power_of k) power h) (ap Some (ap (to_bits binary64) (value_zero k s) ∙ round_zero s))

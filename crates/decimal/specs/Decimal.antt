@@ -1,12 +1,10 @@
 -- A decimal number: m times 10^k with a sign. Its value, the one f64 operation that gives it, and when it is carried. Assumes nothing.
-use Rattle.std.specs.Prelude.{◌≡◌, Bool, true, false, ◌&&◌, cond, ℕ, ◌*◌, ◌^◌, ltb, leb, pos, Float}
+use Rattle.std.specs.Prelude.{◌≡◌, Bool, true, false, ◌&&◌, cond, ℕ, ◌*◌, ◌^◌, ltb, leb, pos, Float, Option, Some, None}
 use Rattle.std.specs.Float.{binary64}
 use Rattle.std.specs.Float.Ieee.{round, neg, mul, div, of_int, to_bits}
 use Rattle.std.specs.Float.Ieee.Exact.{HasValue}
 use Rattle.decimal.specs.declared.Scale.{Scale}
 use Rattle.decimal.specs.declared.Scale.TheVariants.{Times, Over}
-use Rattle.decimal.specs.declared.Carried.{Carried}
-use Rattle.decimal.specs.declared.Carried.TheVariants.{Bits, Outside}
 
 -- ---- the limits
 
@@ -66,5 +64,5 @@ pub record OneOperation (m : ℕ) (k : Scale) (s : Bool) : Type 0 where
 -- ---- what comes back
 
 -- within the limits the bits of the value, and otherwise not carried
-unfoldable pub carried : ℕ → Scale → Bool → Carried
-carried m k s = cond (fits m k) (Bits (to_bits binary64 (value_of m k s))) Outside
+unfoldable pub carried : ℕ → Scale → Bool → Option ℕ
+carried m k s = cond (fits m k) (Some (to_bits binary64 (value_of m k s))) None

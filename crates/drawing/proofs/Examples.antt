@@ -1,8 +1,11 @@
 -- Drawings with what is told of them: one claim, which the definitions compute. Assumes nothing.
+use Rattle.std.specs.Prelude.{Result, Err}
 use mathlib.Core.Path.{◌≡◌, refl}
 use mathlib.Core.List.{List, [], ◌∷◌, ◌++◌, map}
 use Prim.Native.Nat.{ℕ}
 use Prim.Native.String.{String}
+use Rattle.refusal.specs.declared.Refusal.{Refusal}
+use Rattle.drawing.specs.Check.{good_check}
 use Rattle.refusal.specs.First.{lowest, first}
 use Rattle.text.specs.Text.{run_to, word_at, byte_on, label_at, label_on, suffixed_on}
 use Rattle.record.specs.Entry.{Entry, entry_with}
@@ -11,7 +14,6 @@ use Rattle.record.specs.Formed.{malformed_test}
 use Rattle.names.specs.Labels.{labelled}
 use Rattle.drawing.specs.declared.Checked.{Checked}
 use Rattle.refusal.specs.Refusal.{refusal}
-use Rattle.drawing.specs.declared.Checked.TheVariants.{Passed, Refused}
 use Rattle.drawing.specs.Check as check
 use check.{twice, named_at, some_named, guess_at, guessed, wrong_place, wrong_label_test, no_such_part_test, without_guess_test, check_of, count_below, checked_of}
 
@@ -40,20 +42,20 @@ bow rules = one 3 "a" ∷ rules ++ one 24 "a.a" ∷ one 24 "a.b" ∷ one 24 "a.c
 
 -- ---- what is told
 
-abbrev refuses : ℕ → ℕ → Checked
-refuses number place = Refused (refusal number place)
+abbrev refuses : ℕ → ℕ → Result Checked Refusal
+refuses number place = Err (refusal number place)
 
 -- a drawing, and what is told of it
 abbrev Case : Type 0
-Case = List Entry × Checked
+Case = List Entry × Result Checked Refusal
 
 abbrev cases : List Case
 cases =
-    (page, Passed 1 1 0 2)
+    (page, good_check 1 1 0 2)
     -- an arc, and its center fixed both ways
-    ∷ (bow (fix 4 "a.center" ∷ fix 18 "a" ∷ one 20 "a" ∷ []), Passed 0 0 1 3)
+    ∷ (bow (fix 4 "a.center" ∷ fix 18 "a" ∷ one 20 "a" ∷ []), good_check 0 0 1 3)
     -- a rule before the declaration
-    ∷ (fix 4 "p" ∷ one 1 "p" ∷ one 24 "p" ∷ [], Passed 1 0 0 1)
+    ∷ (fix 4 "p" ∷ one 1 "p" ∷ one 24 "p" ∷ [], good_check 1 0 0 1)
     -- 30: nothing, no guess, an instruction after a guess; and before 31
     ∷ ([], refuses 30 0)
     ∷ (one 1 "p" ∷ [], refuses 30 1)

@@ -3,10 +3,10 @@
 use mathlib.Core.Path.{◌≡◌, refl, sym, ap, ◌∙◌}
 use mathlib.Core.Bool.{Bool, true, false, not, ◌||◌, cond, true≢false}
 use mathlib.Core.List.{List}
-use Prim.Native.Nat.{ℕ, ◌≤◌}
+use Prim.Native.Nat.{ℕ}
 use native.Mathlib.Omega.{arith}
 use lib.Dec.{ltb}
-use borrow.Author.Tests.{le-ltb, ltb-false}
+use borrow.Author.Tests.{le-ltb}
 use Rattle.refusal.specs.Refusal.{refusal}
 use Rattle.refusal.specs.First.{Answer, passed, refused, first}
 use Rattle.record.specs.Record.{most_records}
@@ -24,11 +24,6 @@ use Rattle.drawing.specs.Judged.{tells_of, judged_of}
 use Rattle.drawing.proofs.Numbers.{by_numbers}
 use Rattle.drawing.proofs.Order.{told_behind, told_none, told_right}
 use Rattle.drawing.proofs.Spelled.{declared_pointless, then_formed}
-
--- records that are judged are few
-pub few_judged : (resolved : Bool) (n : ℕ) → (not resolved || ltb most_records n) ≡ false → n ≤ most_records
-few_judged true n e = ltb-false _ _ e
-few_judged false n e = absurd (true≢false e)
 
 module _ (text bs was_names was_guesses : List ℕ) (answer : Bool) (names guesses : List ℕ) (r : Resolves text bs was_names was_guesses answer names guesses) where
   -- records that are laid out: the tables are the drawing's

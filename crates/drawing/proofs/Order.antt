@@ -1,4 +1,5 @@
 -- The check of a drawing in its order: 30 first, then what one pass over the records tells by their numbers. Assumes nothing.
+use Rattle.std.specs.Prelude.{Result, Ok, Err}
 use mathlib.Core.Path.{◌≡◌, refl, sym, ap, ◌∙◌, subst}
 use mathlib.Core.Bool.{Bool, false}
 use mathlib.Core.Option.{Option, none, some}
@@ -14,8 +15,6 @@ use Rattle.refusal.specs.First.{passed, refused, tell, first, lowest}
 use Rattle.refusal.specs.Worst.{rank_at, Worst, worst, ranked}
 use Rattle.refusal.proofs.Search.{none_iff, lowest_last}
 use Rattle.refusal.proofs.ByPlaces.{by_places, at_rank, past_rank}
-use Rattle.record.specs.declared.formed.Formed.{Formed}
-use Rattle.record.specs.declared.formed.Formed.TheVariants as formed
 use Rattle.kinds.specs.Kinds.{new_point, new_circle, new_arc, first_rule, last_rule}
 use Rattle.record.specs.Decode.{count_of, decode_at}
 use Rattle.record.specs.Entry.{Entry, no_entry}
@@ -24,7 +23,6 @@ use Rattle.record.proofs.Told.{says_malformed, passed_iff}
 use Rattle.record.proofs.WellFormed.{well_formed_iff}
 use Rattle.names.specs.Labels.{drawn, kind_no}
 use Rattle.names.proofs.Drawn.{drawn_length, drawn_kind, entries_drawn}
-use Rattle.drawing.specs.declared.Checked.TheVariants as checked
 use Rattle.drawing.specs.Faults as faults
 use faults.{Fault, malformed, behind30, number_of}
 use Rattle.drawing.specs.Judged.{thirty_or, count_in, tells_of}
@@ -63,11 +61,11 @@ shorter es = first_last behind30 (test es) (length es) (rw (past es), (rw (past 
 -- ---- 30
 
 -- what is told of a list that is not well formed is told by the check
-pub told_30 : (es : List Entry) (r : Refusal) → formed_of es ≡ formed.Refused r → checked.Refused r ≡ checked_of es
+pub told_30 : (es : List Entry) (r : Refusal) → formed_of es ≡ Err r → Err r ≡ checked_of es
 unfolding checked_of check_of first formed_of
 told_30 es r e = go (lowest (places es) (malformed_test es)) e
   where
-    go : (o : Option ℕ) → verdict o ≡ formed.Refused r → checked.Refused r ≡ answer es (tell malformed o (first behind30 (test es) (places es)))
+    go : (o : Option ℕ) → verdict o ≡ Err r → Err r ≡ answer es (tell malformed o (first behind30 (test es) (places es)))
     go (some j) q = cc
     go none q = let z : ◌≡◌ {A = ℕ} 0 1 = cc in absurd (omega arith)
 
@@ -85,7 +83,7 @@ module _ (text bs : List ℕ) (w : WellFormed text bs) where
       ∙ ap (first behind30 (test es)) (drawn_length text bs)
 
   -- what is told of it: a fault behind 30, or none
-  pub told_behind : (f : Fault) (i : ℕ) → first behind30 (test (drawn text bs)) (count_of bs) ≡ refused f i → checked_of (entries text bs) ≡ checked.Refused (refusal (number_of f) i)
+  pub told_behind : (f : Fault) (i : ℕ) → first behind30 (test (drawn text bs)) (count_of bs) ≡ refused f i → checked_of (entries text bs) ≡ Err (refusal (number_of f) i)
   unfolding checked_of
   told_behind f i e = rw (entries_drawn text bs w, check_is, e) refl
 
@@ -97,9 +95,9 @@ module _ (text bs : List ℕ) (w : WellFormed text bs) where
   told_none e = rw (entries_drawn text bs w, check_is, e, count_is new_point new_point, count_is new_circle new_circle, count_is new_arc new_arc, count_is first_rule last_rule) refl
 
 -- 30, or else what is told of a well formed list
-pub told_right : (text bs : List ℕ) (other : Refusal) → (WellFormed text bs → checked_of (entries text bs) ≡ checked.Refused other) → thirty_or (formed_of (entries text bs)) other ≡ checked_of (entries text bs)
+pub told_right : (text bs : List ℕ) (other : Refusal) → (WellFormed text bs → checked_of (entries text bs) ≡ Err other) → thirty_or (formed_of (entries text bs)) other ≡ checked_of (entries text bs)
 told_right text bs other f = go (formed_of (entries text bs)) refl
   where
-    go : (o : Formed) → formed_of (entries text bs) ≡ o → thirty_or o other ≡ checked_of (entries text bs)
-    go (formed.Refused r) e = told_30 (entries text bs) r e
-    go formed.WellFormed e = sym (f ((well_formed_iff text bs).0 e))
+    go : (o : Result Unit Refusal) → formed_of (entries text bs) ≡ o → thirty_or o other ≡ checked_of (entries text bs)
+    go (Err r) e = told_30 (entries text bs) r e
+    go (Ok tt) e = sym (f ((well_formed_iff text bs).0 e))

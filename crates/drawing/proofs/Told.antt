@@ -1,4 +1,5 @@
 -- What is told of a drawing, in docs/FORMAT.md's words: the numbers of the faults are apart, so the answer tells which fault the check found. Assumes nothing.
+use Rattle.std.specs.Prelude.{Err}
 use mathlib.Core.Path.{◌≡◌, refl, sym, ap, ◌∙◌}
 use mathlib.Core.Logic.{◌↔◌}
 use mathlib.Core.List.{List}
@@ -10,10 +11,9 @@ use Rattle.refusal.specs.First.{Answer, passed, refused, Nowhere, Told}
 use Rattle.kinds.specs.Kinds.{new_point, new_circle, new_arc, first_rule, last_rule}
 use Rattle.record.specs.Entry.{Entry}
 use Rattle.record.specs.Formed.{places}
-use Rattle.drawing.specs.declared.Checked.TheVariants as checked
 use Rattle.drawing.specs.Faults as faults
 use faults.{Fault, malformed, order, number_of, Holds}
-use Rattle.drawing.specs.Check.{check_of, count_within, answer, checked_of}
+use Rattle.drawing.specs.Check.{check_of, count_within, answer, checked_of, good_check}
 use Rattle.ground.proofs.Pieces.{each_has}
 use Rattle.drawing.proofs.Agree.{listed, check_refuses, check_passes}
 
@@ -26,11 +26,11 @@ numbers_apart : (f g : Fault) → number_of f ≡ number_of g → f ≡ g
 numbers_apart f g e = sym (fault_back f) ∙ ap (by_number number_of (λ g. g) malformed order) e ∙ fault_back g
 
 -- a pass is no refusal
-not_passed : {p c a n : ℕ} {r : Refusal} → checked.Passed p c a n ≡ checked.Refused r → ⊥
+not_passed : {p c a n : ℕ} {r : Refusal} → good_check p c a n ≡ Err r → ⊥
 not_passed e = let z : ◌≡◌ {A = ℕ} 0 1 = cc in omega arith
 
 module _ (es : List Entry) where
-  refused_of : (o : Answer Fault) (f : Fault) (i : ℕ) → answer es o ≡ checked.Refused (refusal (number_of f) i) → o ≡ refused f i
+  refused_of : (o : Answer Fault) (f : Fault) (i : ℕ) → answer es o ≡ Err (refusal (number_of f) i) → o ≡ refused f i
   refused_of passed f i e = absurd (not_passed e)
   refused_of (refused g j) f i e =
       let r : refusal (number_of g) j ≡ refusal (number_of f) i = cc in
@@ -42,14 +42,14 @@ module _ (es : List Entry) where
   passed_of (refused g j) e = absurd (not_passed (sym e))
 
   -- the number of f is told at i exactly if f holds at i, no fault earlier in the order holds anywhere, and f at no lower place
-  pub refused_iff : (f : Fault) (i : ℕ) → (checked_of es ≡ checked.Refused (refusal (number_of f) i)) ↔ Told (Holds es) (places es) order f i
+  pub refused_iff : (f : Fault) (i : ℕ) → (checked_of es ≡ Err (refusal (number_of f) i)) ↔ Told (Holds es) (places es) order f i
   unfolding checked_of
   refused_iff f i =
       let t = check_refuses es f i in
       (λ e. t.0 (refused_of (check_of es) f i e), λ w. ap (answer es) (t.1 w))
 
   -- a drawing passes, with its counts, exactly if no fault holds anywhere
-  pub passed_iff : (checked_of es ≡ checked.Passed (count_within es new_point new_point) (count_within es new_circle new_circle) (count_within es new_arc new_arc) (count_within es first_rule last_rule)) ↔ ((f : Fault) → Nowhere (Holds es f) (places es))
+  pub passed_iff : (checked_of es ≡ good_check (count_within es new_point new_point) (count_within es new_circle new_circle) (count_within es new_arc new_arc) (count_within es first_rule last_rule)) ↔ ((f : Fault) → Nowhere (Holds es f) (places es))
   unfolding checked_of
   passed_iff =
       let t = check_passes es in

@@ -1,5 +1,6 @@
 -- The faults of a drawing as tests, and the check: the first fault of the order, at the lowest record where it holds.
-use Rattle.std.specs.Prelude.{Bool, false, not, ◌&&◌, ◌||◌, cond, List, [], ◌∷◌, ◌++◌, ℕ, zero, suc, ◌+◌, eqb, length}
+use Rattle.std.specs.Prelude.{Bool, false, not, ◌&&◌, ◌||◌, cond, List, [], ◌∷◌, ◌++◌, ℕ, zero, suc, ◌+◌, eqb, length, Result, Err, Ok}
+use Rattle.refusal.specs.declared.Refusal.{Refusal}
 use Rattle.refusal.specs.Refusal.{refusal}
 use Rattle.refusal.specs.First.{any_below, Answer, passed, refused, first}
 use Rattle.kinds.specs.Kinds.{kind_at, new_point, new_circle, new_arc, first_rule, last_rule, pair_guess, number_guess}
@@ -7,7 +8,6 @@ use Rattle.record.specs.Entry.{Label, Entry, entry_at, label_no}
 use Rattle.record.specs.Formed.{places, malformed_test}
 use Rattle.names.specs.Labels.{kind_no, name_no, same, within, labelled}
 use Rattle.drawing.specs.declared.Checked.{Checked}
-use Rattle.drawing.specs.declared.Checked.TheVariants as checked
 use Rattle.drawing.specs.Needs.{Shape, point, circle, arc, declaring, Part, parts, Need, need_at}
 use Rattle.drawing.specs.Faults as faults
 use faults.{Fault, malformed, declared_twice, wrong_label, no_such_part, guessed_twice, without_guess, order, number_of}
@@ -92,11 +92,15 @@ count_below kinds low high (suc n) = count_below kinds low high n + cond (within
 abbrev pub count_within : List Entry → ℕ → ℕ → ℕ
 count_within es low high = count_below (kind_no es) low high (length es)
 
+-- a drawing passes with so many points, circles, arcs and rows
+abbrev pub good_check : ℕ → ℕ → ℕ → ℕ → Result Checked Refusal
+good_check points circles arcs rows = Ok (record { points = points; circles = circles; arcs = arcs; rows = rows })
+
 -- a drawing that passes has so many points, circles, arcs and rows; any other is refused with docs/FORMAT.md's number, at a place
-abbrev pub answer : List Entry → Answer Fault → Checked
-answer es passed = checked.Passed (count_within es new_point new_point) (count_within es new_circle new_circle) (count_within es new_arc new_arc) (count_within es first_rule last_rule)
-answer es (refused f i) = checked.Refused (refusal (number_of f) i)
+abbrev pub answer : List Entry → Answer Fault → Result Checked Refusal
+answer es passed = good_check (count_within es new_point new_point) (count_within es new_circle new_circle) (count_within es new_arc new_arc) (count_within es first_rule last_rule)
+answer es (refused f i) = Err (refusal (number_of f) i)
 
 -- what is told of a drawing
-unfoldable pub checked_of : List Entry → Checked
+unfoldable pub checked_of : List Entry → Result Checked Refusal
 checked_of es = answer es (check_of es)

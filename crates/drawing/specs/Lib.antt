@@ -3,3 +3,4 @@ pub mod Faults
 pub mod Check
 pub mod Numbers
 pub mod Judged
+pub mod Ranks

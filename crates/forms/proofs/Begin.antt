@@ -27,7 +27,7 @@ use Rattle.forms.proofs.Words.{no_keyword, no_declaration}
 
 -- ---- choices
 
-or_assoc : (a b c : Lines) → or_line (or_line a b) c ≡ or_line a (or_line b c)
+pub or_assoc : (a b c : Lines) → or_line (or_line a b) c ≡ or_line a (or_line b c)
 or_assoc a b c = go a.then refl
   where
     go : (t : Stand) → a.then ≡ t → or_stand (or_stand t a b).then (or_stand t a b) c ≡ or_stand t a (or_line b c)

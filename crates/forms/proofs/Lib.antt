@@ -3,6 +3,7 @@ pub mod Stands
 pub mod Words
 pub mod Begin
 pub mod Table
+pub mod Choice
 pub mod Order
 pub mod Storing
 pub mod Turns

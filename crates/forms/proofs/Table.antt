@@ -1,25 +1,13 @@
--- What the reader needs of the words of the kinds: of a field, that its word begins it, and of the keywords one computed test. Assumes nothing.
-use mathlib.Core.Path.{◌≡◌, refl}
+-- What the reader needs of the words of the keywords: one computed test. Assumes nothing.
+use mathlib.Core.Path.{refl}
 use mathlib.Core.Bool.{Bool}
-use mathlib.Core.List.{List}
 use Prim.Native.Nat.{ℕ, ◌≤◌, ◌<◌}
-use native.Mathlib.Omega.{arith}
 use lib.Dec.{leb}
-use lib.ListN.{length, get_or, take, length-append}
-use lib.Seq.{take_at}
+use lib.ListN.{length, get_or}
 use borrow.Author.Tests.{leb-true}
 use Rattle.ground.proofs.Lists.{get_or_inside, all_at}
-use Rattle.kinds.specs.declared.Word.{Word}
-use Rattle.kinds.specs.Kinds.{word_of, in_field}
+use Rattle.kinds.specs.Kinds.{word_of}
 use Rattle.forms.specs.Forms.{keyword_kinds}
-
--- a word is no longer than its field, and its field begins with it
-module _ (w : List ℕ) (field : Word) (e : field ≡ in_field w) where
-  pub word_fits : field.1 ≤ length field.0
-  word_fits = rw e (simp length-append (omega arith))
-
-  pub word_begins : take field.1 field.0 ≡ w
-  word_begins = rw e (take_at w _ (length w) refl)
 
 -- every keyword has at least two bytes
 long : ℕ → Bool

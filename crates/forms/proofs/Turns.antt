@@ -2,25 +2,30 @@
 use mathlib.Core.Path.{◌≡◌, refl, sym, ◌∙◌}
 use mathlib.Core.Bool.{Bool, true, false, cond}
 use mathlib.Core.List.{List, [], ◌∷◌}
+use Rattle.std.specs.Prelude.{Option, None, Some}
 use Prim.Native.Nat.{ℕ, zero, suc, ◌+◌, ◌-◌, ◌*◌, ◌≤◌, ◌<◌}
 use native.Mathlib.Omega.{arith}
 use lib.ListN.{length, drop, length-append}
 use Rattle.text.specs.Text.{from, or_stand, refused_at, starts, word_at, byte_on, newline_on}
 use Rattle.text.specs.declared.Stand.{Stand}
 use Rattle.text.specs.declared.Stand.TheVariants.{At, Nothing, Refused}
-use Rattle.text.proofs.Laws.{handed, cond_of}
+use Rattle.text.proofs.Laws.{handed}
 use Rattle.record.specs.declared.Record.{Record}
 use Rattle.forms.specs.declared.Count.{Count}
 use Rattle.forms.specs.declared.pieces.Parsed.{Parsed}
 use Rattle.forms.specs.Forms.{Lines, no_line, line_on}
 use Rattle.forms.specs.Section.{followed_by, rest_of, lines_on, stored, SectionRead}
-use Rattle.forms.specs.Steps.{records_of, meant_line}
+use Rattle.forms.specs.Steps.{with_second, records_of, meant_line}
 use Rattle.forms.proofs.Begin.{line_nowhere, line_refused}
 use Rattle.forms.proofs.Storing.{stored_length, stored_append}
 
 -- a line that was read has one record or two
 few_records : (l : Parsed) → length (records_of l) ≤ 2
-few_records l = cond_of (λ (rs : List Record). length rs ≤ 2) l.two _ _ (λ e. omega arith) (λ e. omega arith)
+few_records l = go l.second
+  where
+    go : (second : Option ℕ) → length (with_second l.first second) ≤ 2
+    go None = omega arith
+    go (Some x) = omega arith
 
 -- ---- what is left to read
 

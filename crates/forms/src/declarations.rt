@@ -1,63 +1,41 @@
 // Declarations: their words and their labels.
 ghost use Rattle.std.specs.Prelude.{◌≡◌, ◌≤◌, length};
-ghost use Rattle.text.specs.Text.{ws_on, label_on};
 ghost use Rattle.text.specs.declared.Stand.TheVariants.{At};
 ghost use Rattle.kinds.specs.Kinds.{word_of};
 ghost use Rattle.forms.specs.Forms.{declare_on};
-ghost use Rattle.forms.specs.Steps.{declaration_on, declared};
+ghost use Rattle.forms.specs.Steps.{meant_line, declaration_on};
 
+use crate::pieces::Parsed;
 use crate::{keywords, pieces};
-use text::{ReadLabel, Stand};
+use text::Stand;
 
-// A declaration: its kind and its label.
-#[derive(Clone, Copy)]
-pub struct Declared {
-    pub kind: u8,
-    pub label: ReadLabel,
-}
-
-// The label behind the word of a declaration; the space between them may be missing.
-fn label_behind(text: &[u8], word: Stand) -> ReadLabel
-    ensures { result ≡ label_on text.now (ws_on text.now word) }
-{
-    let s = text::ws(text, word);
-    text::parse_label(text, s)
-}
-
-// The word of a declaration and its label.
-fn declare(text: &[u8], at: usize, kind: u8) -> Declared
+// The word of a declaration and its label; the space between them may be missing.
+#[tactic(auto, unfolding(crate::specs::Forms::declare_on))]
+fn declare(text: &[u8], at: usize, kind: u8) -> Parsed
     requires { 2 ≤ length (word_of kind) }
-    ensures { declared result ≡ declare_on text.now (At at) kind }
+    ensures { meant_line result ≡ declare_on text.now (At at) kind }
 {
-    if !keywords::may_stand(text, Stand::At(at), kind) {
-        return Declared {
-            kind,
-            label: pieces::no_label(Stand::Nothing),
-        };
+    if !keywords::may_stand(text, at, kind) {
+        return pieces::no_line(Stand::Nothing);
     }
-    let s = keywords::keyword(text, Stand::At(at), kinds::word_of(kind));
-    Declared {
-        kind,
-        label: label_behind(text, s),
+    let word = text::word(text, Stand::At(at), kinds::word_of(kind));
+    let s = text::ws(text, word);
+    let l = text::parse_label(text, s);
+    Parsed {
+        first: pieces::labelled(kind, 0, l, 0, 0),
+        second: None,
+        then: l.then,
     }
 }
 
 // A declaration, by its word's first byte.
-pub(crate) fn declaration(text: &[u8], at: usize) -> Declared
-    ensures { declared result ≡ declaration_on text.now (At at) }
+pub(crate) fn declaration(text: &[u8], at: usize) -> Parsed
+    ensures { meant_line result ≡ declaration_on text.now (At at) }
 {
-    let b = text::byte_at(text, at);
-    if b == b'p' {
-        return declare(text, at, kinds::NEW_POINT);
-    }
-    if b == b'c' {
-        return declare(text, at, kinds::NEW_CIRCLE);
-    }
-    if b == b'a' {
-        return declare(text, at, kinds::NEW_ARC);
-    }
-    Declared {
-        kind: 0,
-        label: pieces::no_label(Stand::Nothing),
+    match text::byte_at(text, at) {
+        b'p' => declare(text, at, kinds::NEW_POINT),
+        b'c' => declare(text, at, kinds::NEW_CIRCLE),
+        b'a' => declare(text, at, kinds::NEW_ARC),
+        _ => pieces::no_line(Stand::Nothing),
     }
 }

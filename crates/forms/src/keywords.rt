@@ -2,18 +2,17 @@
 ghost use Rattle.std.specs.Prelude.{◌≡◌, true, false, ◌≤◌, length, take};
 ghost use Rattle.text.specs.Text.{word_on};
 ghost use Rattle.text.specs.declared.Stand.TheVariants.{At, Nothing};
-ghost use Rattle.kinds.specs.Kinds.{table, word_of};
+ghost use Rattle.kinds.specs.Kinds.{word_of};
 ghost use Rattle.forms.specs.Forms.{keyword_on, keyword_kinds, first_of};
-ghost use Rattle.forms.specs.Steps.{meant_line, none_begins};
+ghost use Rattle.forms.specs.Steps.{meant_line, none_begins, KindsFrom};
 
 use crate::pieces;
 use crate::pieces::Parsed;
-use kinds::Word;
 use record::Record;
 use text::Stand;
 
 // The keyword forms in the Rust's order.
-const KEYWORD_KINDS: [u8; 18] = [
+static KEYWORD_KINDS: [u8; 18] = [
     6, // horizontal
     11, // coincident
     12, // point_arc_coincident
@@ -34,53 +33,31 @@ const KEYWORD_KINDS: [u8; 18] = [
     19, // lines_equal_length
 ];
 
-// Whether a kind's word may stand there, by its first two bytes.
-pub(crate) fn may_stand(text: &[u8], stand: Stand, kind: u8) -> bool
+// Whether a kind's word may stand at a place, by its first two bytes.
+#[tactic(auto, using(crate::proofs::Words::not_begun, crate::proofs::Words::past_end))]
+pub(crate) fn may_stand(text: &[u8], at: usize, kind: u8) -> bool
     requires { 2 ≤ length (word_of kind) }
-    ensures { result ≡ false → word_on text.now stand (word_of kind) ≡ Nothing }
+    ensures { result ≡ false → word_on text.now (At at) (word_of kind) ≡ Nothing }
 {
-    let Stand::At(at) = stand else {
-        return true;
-    };
-    if text.len() <= at {
-        return false;
-    }
-    kinds::may_begin(kind, text[at], text::byte_at(text, at + 1))
-}
-
-// A word in its field.
-pub(crate) fn keyword(text: &[u8], stand: Stand, word: Word) -> Stand
-    requires { word.1 ≤ length word.0 }
-    ensures { result ≡ word_on text.now stand (take word.1 word.0) }
-{
-    let field = word.0;
-    let len = word.1;
-    text::word(text, stand, &field[..len])
+    at < text.len() && kinds::may_begin(kind, text[at], text::byte_at(text, at + 1))
 }
 
 // A keyword form, by its row in the table.
-fn keyword_form(text: &[u8], stand: Stand, kind: u8, kinds: &[[u8; 8]; 26]) -> Parsed
-    requires { kinds.now ≡ table }
-    ensures { meant_line result ≡ keyword_on text.now stand kind }
+fn keyword_form(text: &[u8], at: usize, kind: u8) -> Parsed
+    ensures { meant_line result ≡ keyword_on text.now (At at) kind }
 {
-    let labels = kinds::look(kinds, kind, kinds::LABELS);
-    let s = keyword(text, stand, kinds::word_of(kind));
+    let labels = kinds::cell_of(kind, kinds::LABELS);
+    let s = text::word(text, Stand::At(at), kinds::word_of(kind));
     let s = text::ws(text, s);
     let s = text::byte(text, s, b'(');
     let s = text::ws(text, s);
     let a = text::parse_label(text, s);
-    let s = a.then;
-    let b = pieces::more(text, s, 1 < labels);
-    let s = b.then;
-    let c = pieces::more(text, s, 2 < labels);
-    let s = c.then;
-    let d = pieces::more(text, s, 3 < labels);
-    let s = d.then;
-    let n = pieces::parse_amount(text, s, kinds::look(kinds, kind, kinds::SORT));
-    let s = n.then;
-    let spelling = kinds::look(kinds, kind, kinds::SPELLING);
-    let s = pieces::gap(text, s, spelling == kinds::GAP);
-    let then = text::byte(text, s, b')');
+    let b = pieces::more(text, a.then, 1 < labels);
+    let c = pieces::more(text, b.then, 2 < labels);
+    let d = pieces::more(text, c.then, 3 < labels);
+    let n = pieces::parse_amount(text, d.then, kinds::cell_of(kind, kinds::SORT));
+    let spelling = kinds::cell_of(kind, kinds::SPELLING);
+    let s = pieces::gap(text, n.then, spelling == kinds::GAP);
     let first = Record {
         kind,
         third: n.third,
@@ -96,25 +73,27 @@ fn keyword_form(text: &[u8], stand: Stand, kind: u8, kinds: &[[u8; 8]; 26]) -> P
     };
     Parsed {
         first,
-        two: false,
-        then,
+        second: None,
+        then: text::byte(text, s, b')'),
     }
 }
 
 // A keyword form, where its word may stand there.
-fn try_keyword(text: &[u8], stand: Stand, kind: u8, kinds: &[[u8; 8]; 26]) -> Parsed
-    requires { (kinds.now ≡ table) × (2 ≤ length (word_of kind)) }
-    ensures { meant_line result ≡ keyword_on text.now stand kind }
+#[tactic(auto, using(crate::proofs::Words::no_keyword))]
+fn try_keyword(text: &[u8], at: usize, kind: u8) -> Parsed
+    requires { 2 ≤ length (word_of kind) }
+    ensures { meant_line result ≡ keyword_on text.now (At at) kind }
 {
-    if may_stand(text, stand, kind) {
-        return keyword_form(text, stand, kind, kinds);
+    if may_stand(text, at, kind) {
+        keyword_form(text, at, kind)
+    } else {
+        pieces::no_line(Stand::Nothing)
     }
-    pieces::no_line(Stand::Nothing)
 }
 
 // A place of the order before which no keyword begins with this byte.
 fn skip_to(b: u8) -> usize
-    ensures { none_begins b (take result keyword_kinds) ≡ true }
+    ensures { (result ≤ 18) × (none_begins b (take result keyword_kinds) ≡ true) }
 {
     match b {
         b'c' => 1,
@@ -132,20 +111,22 @@ fn skip_to(b: u8) -> usize
     }
 }
 
+// The keyword forms in their order, but for some at its start that do not begin with this byte.
+fn kinds_from(b: u8) -> &'static [u8]
+    ensures { KindsFrom b result.now }
+{
+    &KEYWORD_KINDS[skip_to(b)..]
+}
+
 // The first keyword form that reads at a place.
-pub(crate) fn keyword_forms(text: &[u8], at: usize, kinds: &[[u8; 8]; 26]) -> Parsed
-    requires { kinds.now ≡ table }
+pub(crate) fn keyword_forms(text: &[u8], at: usize) -> Parsed
     ensures { meant_line result ≡ first_of text.now (At at) keyword_kinds }
 {
-    let order = KEYWORD_KINDS;
-    let mut i = skip_to(text::byte_at(text, at));
-    while i < 18 {
-        let line = try_keyword(text, Stand::At(at), order[i], kinds);
-        let then = line.then;
-        let Stand::Nothing = then else {
+    for kind in kinds_from(text::byte_at(text, at)) {
+        let line = try_keyword(text, at, *kind);
+        let Stand::Nothing = line.then else {
             return line;
         };
-        i += 1;
     }
     pieces::no_line(Stand::Nothing)
 }

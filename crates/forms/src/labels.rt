@@ -1,7 +1,6 @@
 // The forms that begin with a label.
 ghost use Rattle.std.specs.Prelude.{◌≡◌};
 ghost use Rattle.text.specs.declared.Stand.TheVariants.{At};
-ghost use Rattle.kinds.specs.Kinds.{table};
 ghost use Rattle.forms.specs.Forms.{fixed_on, assign_on, label_forms_on};
 ghost use Rattle.forms.specs.Steps.{meant_line, assigned_on, behind_on};
 
@@ -10,89 +9,64 @@ use crate::{keywords, pieces};
 use text::{ReadLabel, Stand};
 
 // What follows the label of a fixed component: a word, x or y, `=` and a number.
+#[tactic(auto, unfolding(crate::specs::Forms::fixed_on))]
 fn fix_component(text: &[u8], l: ReadLabel, kind: u8, between: &[u8]) -> Parsed
     ensures { meant_line result ≡ fixed_on text.now l kind between.now }
 {
-    let s = l.then;
-    let s = text::word(text, s, between);
+    let s = text::word(text, l.then, between);
     let c = pieces::parse_component(text, s);
-    let s = c.then;
-    let s = pieces::around(text, s, b'=');
+    let s = pieces::around(text, c.then, b'=');
     let n = number::parse_number(text, s);
-    let then = n.then;
     Parsed {
         first: pieces::labelled(kind, c.third, l, n.bits, 0),
-        two: false,
-        then,
+        second: None,
+        then: n.then,
     }
 }
 
 // What follows the label of an assignment: a second part, `=` and a pair. It is two records, x then y.
+#[tactic(auto, unfolding(crate::specs::Forms::assign_on))]
 fn assign_point(text: &[u8], first: ReadLabel) -> Parsed
     ensures { meant_line result ≡ assign_on text.now first }
 {
     let l = text::opt_suffix(text, first);
-    let s = l.then;
-    let s = pieces::around(text, s, b'=');
+    let s = pieces::around(text, l.then, b'=');
     let p = pieces::parse_point(text, s);
-    let then = p.then;
     Parsed {
-        first: pieces::labelled(kinds::FIX_COMPONENT, 1, l, p.x, p.y),
-        two: true,
-        then,
+        first: pieces::labelled(kinds::FIX_COMPONENT, 1, l, p.x, 0),
+        second: Some(p.y),
+        then: p.then,
     }
 }
 
 // An assignment, and then the forms that begin with a keyword.
-fn assign_forms(text: &[u8], at: usize, l: ReadLabel, kinds: &[[u8; 8]; 26]) -> Parsed
-    requires { kinds.now ≡ table }
+#[tactic(auto, using(crate::proofs::Choice::chosen))]
+fn assign_forms(text: &[u8], at: usize, l: ReadLabel) -> Parsed
     ensures { meant_line result ≡ assigned_on text.now (At at) l }
 {
-    let line = assign_point(text, l);
-    let then = line.then;
-    let Stand::Nothing = then else {
-        return line;
-    };
-    keywords::keyword_forms(text, at, kinds)
+    assign_point(text, l).or_else(|| keywords::keyword_forms(text, at))
 }
 
 // The forms that begin with a label, and then those that begin with a keyword.
-fn dotted_forms(text: &[u8], at: usize, l: ReadLabel, kinds: &[[u8; 8]; 26]) -> Parsed
-    requires { kinds.now ≡ table }
+fn dotted_forms(text: &[u8], at: usize, l: ReadLabel) -> Parsed
     ensures { meant_line result ≡ behind_on text.now (At at) l }
 {
-    let line = fix_component(text, l, kinds::FIX_COMPONENT, b".");
-    let then = line.then;
-    let Stand::Nothing = then else {
-        return line;
-    };
-    let line = fix_component(text, l, kinds::FIX_CENTER, b".center.");
-    let then = line.then;
-    let Stand::Nothing = then else {
-        return line;
-    };
-    assign_forms(text, at, l, kinds)
+    fix_component(text, l, kinds::FIX_COMPONENT, b".")
+        .or_else(|| fix_component(text, l, kinds::FIX_CENTER, b".center."))
+        .or_else(|| assign_forms(text, at, l))
 }
 
 // The same by the byte behind the label: a point, or a bracket or a low line, which tells a keyword.
-pub(crate) fn label_forms(text: &[u8], at: usize, kinds: &[[u8; 8]; 26]) -> Parsed
-    requires { kinds.now ≡ table }
+pub(crate) fn label_forms(text: &[u8], at: usize) -> Parsed
     ensures { meant_line result ≡ label_forms_on text.now (At at) }
 {
     let l = text::parse_label(text, Stand::At(at));
-    let then = l.then;
-    let Stand::At(next) = then else {
-        return dotted_forms(text, at, l, kinds);
+    let Stand::At(next) = l.then else {
+        return dotted_forms(text, at, l);
     };
-    let b = text::byte_at(text, next);
-    if b == b'.' {
-        return dotted_forms(text, at, l, kinds);
+    match text::byte_at(text, next) {
+        b'.' => dotted_forms(text, at, l),
+        b'(' | b'_' => keywords::keyword_forms(text, at),
+        _ => assign_forms(text, at, l),
     }
-    if b == b'(' {
-        return keywords::keyword_forms(text, at, kinds);
-    }
-    if b == b'_' {
-        return keywords::keyword_forms(text, at, kinds);
-    }
-    assign_forms(text, at, l, kinds)
 }

@@ -12,12 +12,12 @@ ghost use Rattle.std.specs.Prelude.{◌≡◌};
 ghost use Rattle.forms.specs.Forms.{line_on, handed_out};
 ghost use Rattle.forms.specs.Section.{section_on, SectionRead};
 
-use kinds::KINDS;
 use record::Record;
 use refusal::Refusal;
 use text::Stand;
 
-// A line: how many records it has, the first and the second, each no record where there is none, and where reading stands behind it.
+// A line: how many records it has, the first and the second, each no record where there is none, and where reading stands behind it. The count
+// stands beside the records, since the promise of `read_line`, `handed_out`, says it so.
 #[derive(Clone, Copy)]
 pub struct Line {
     pub count: usize,
@@ -37,13 +37,12 @@ pub struct Count {
 pub fn read_line(text: &[u8], stand: Stand, guess: bool) -> Line
     ensures { result ≡ handed_out (line_on guess text.now stand) }
 {
-    let kinds = KINDS;
-    let line = lines::line_at(text, stand, guess, &kinds);
-    lines::hand_out(line)
+    lines::hand_out(lines::line_at(text, stand, guess))
 }
 
 // A line, which is due and refused by a number where there is none, and those that follow it. Their records go into a buffer, each where there is
 // room for it, from a place on. A text that is too long is refused by 1.
+#[tactic(auto, unfolding(crate::specs::Section::section_on))]
 pub fn read_section(
     text: &[u8],
     stand: Stand,
@@ -54,7 +53,7 @@ pub fn read_section(
 ) -> Count
     ensures { SectionRead own.old start (section_on guesses text.now stand number) result own.new }
 {
-    let start = start as usize;
+    let start = start as usize; // no `From` leads there from a u32
     if record::LONGEST < text.len() {
         return Count {
             count: start,
@@ -70,6 +69,5 @@ pub fn read_section(
             then: stand,
         };
     };
-    let kinds = KINDS;
-    section::section(text, first, guesses, number, own, start, &kinds)
+    section::section(text, first, guesses, number, own, start)
 }

@@ -2,7 +2,6 @@
 ghost use Rattle.std.specs.Prelude.{◌≡◌, ◌≤◌, length};
 ghost use Rattle.text.specs.declared.Stand.TheVariants.{At};
 ghost use Rattle.record.specs.Record.{longest_text};
-ghost use Rattle.kinds.specs.Kinds.{table};
 ghost use Rattle.forms.specs.Section.{lines_on, store, SectionRead};
 ghost use Rattle.forms.specs.Steps.{records_of, Stored, stop_of};
 
@@ -22,31 +21,31 @@ fn put_record(own: &mut [u8], n: usize, r: Record)
 }
 
 // Puts the records of a line at their places, and answers the next place.
+#[tactic(auto, unfolding(crate::specs::Section::stored))]
 fn put_line(own: &mut [u8], n: usize, line: Parsed) -> usize
     requires { n ≤ 5000000000 }
     ensures { Stored own.old n (records_of line) result own.new }
 {
     let first = line.first;
-    if line.two {
-        put_record(own, n, lines::with_component(first, 1, first.x));
-        put_record(own, n + 1, lines::with_component(first, 2, first.y));
-        return n + 2;
-    }
     put_record(own, n, first);
-    n + 1
+    let Some(x) = line.second else {
+        return n + 1;
+    };
+    put_record(own, n + 1, lines::second_of(first, x));
+    n + 2
 }
 
 // Where reading stands without a further line: at the end of the last one, or, before the first one, refused where that is due.
-fn stop(first: usize, number: u8, lines: usize, last: usize) -> Stand
-    ensures { result ≡ stop_of first number lines last }
+fn stop(first: usize, number: u8, last: Option<usize>) -> Stand
+    ensures { result ≡ stop_of first number last }
 {
-    if lines == 0 {
-        return Stand::Refused(Refusal {
+    match last {
+        None => Stand::Refused(Refusal {
             number,
             place: first,
-        });
+        }),
+        Some(end) => Stand::At(end),
     }
-    Stand::At(last)
 }
 
 // A line, which is due, and those that follow it, each behind one new line. Where none reads, reading stands at the last line's end.
@@ -57,35 +56,31 @@ pub(crate) fn section(
     number: u8,
     own: &mut [u8],
     start: usize,
-    kinds: &[[u8; 8]; 26],
 ) -> Count
-    requires { (kinds.now ≡ table) × (length text.now ≤ longest_text) × (start ≤ 4294967295) }
+    requires { (length text.now ≤ longest_text) × (start ≤ 4294967295) }
     ensures { SectionRead own.old start (lines_on guesses text.now (At first) number) result own.new }
 {
     let mut at = first;
-    let mut last = first;
+    let mut last = None;
     let mut n = start;
-    let mut k = 0;
-    while k <= text.len() {
-        let line = lines::line_at(text, Stand::At(at), guesses, kinds);
+    for _ in 0..text.len() + 1 {
+        let line = lines::line_at(text, Stand::At(at), guesses);
         let then = line.then;
         let Stand::At(end) = then else {
             return Count {
                 count: n,
-                then: text::or_stand(then, stop(first, number, k, last)),
+                then: text::or_stand(then, stop(first, number, last)),
             };
         };
         n = put_line(own, n, line);
-        let next = text::newline(text, then);
-        let Stand::At(after) = next else {
+        let Stand::At(after) = text::newline(text, then) else {
             return Count { count: n, then };
         };
         at = after;
-        last = end;
-        k += 1;
+        last = Some(end);
     }
     Count {
         count: n,
-        then: stop(first, number, k, last),
+        then: stop(first, number, last),
     }
 }

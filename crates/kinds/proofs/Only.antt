@@ -1,4 +1,9 @@
--- The promise of each public function, as its source states it, determines the answer: each is an equation. Assumes nothing.
+-- The promise of each public function, as its source states it, determines the answer: each is an equation. Of a word, which is a part of a
+-- static, it determines the bytes. Assumes nothing.
+use mathlib.Core.Path.{◌≡◌}
+use contract.Lifetimes.{Lfts}
+use borrow.Fn.Kinds.{Dens, res_t, ended_of}
+use denote.Triple.Clauses.{AtExit}
 use Rattle.ground.proofs.Determined.{Determined, by_equation}
 use Rattle.kinds.proofs.look.Kinds as look_kinds
 use Rattle.kinds.proofs.look.Reads as look
@@ -15,7 +20,8 @@ look_only κs a x y e f p q = by_equation p q
 pub cell_of_only : Determined 0 cell_of_kinds.ps cell_of_kinds.r cell_of.Post
 cell_of_only κs a x y e f p q = by_equation p q
 
-pub word_of_only : Determined 0 word_of_kinds.ps word_of_kinds.r word_of.Post
+pub word_of_only : (κs : Lfts 1) (a : Dens κs word_of_kinds.ps) (x y : (res_t word_of_kinds.r κs).Denot)
+    (e f : AtExit (ended_of 1 word_of_kinds.ps word_of_kinds.r) κs) → word_of.Post κs a x e → word_of.Post κs a y f → x.now ≡ y.now
 word_of_only κs a x y e f p q = by_equation p q
 
 pub may_begin_only : Determined 0 may_begin_kinds.ps may_begin_kinds.r may_begin.Post

@@ -3,7 +3,6 @@
 use Rattle.std.specs.Prelude.{Bool, true, false, ◌&&◌, cond, List, [], ◌∷◌, ◌++◌, map, ℕ, ◌-◌, ◌≤◌, ◌<◌, ltb, eqb, length, get_or, replicate}
 use Prim.Native.String.{String}
 use Rattle.ground.specs.Words.{bytes}
-use Rattle.kinds.specs.declared.Word.{Word}
 
 -- the label places of a record
 abbrev pub label_places : ℕ
@@ -273,12 +272,9 @@ cell t kind column = cond (ltb kind rows && ltb column columns) (get_or (get_or 
 abbrev pub word_of : ℕ → List ℕ
 word_of k = (kind_at k).word
 
--- a word in a field of twenty bytes, padded with blanks
+-- a word padded with blanks to twenty bytes
 abbrev pub padded : List ℕ → List ℕ
 padded w = w ++ replicate (20 - length w) 32
-
-abbrev pub in_field : List ℕ → Word
-in_field w = (padded w, length w)
 
 -- a word, with its padding, begins with two bytes
 abbrev pub begins : List ℕ → ℕ → ℕ → Bool

@@ -1,8 +1,10 @@
 // THE table of the 25 kinds, which reader, check and lowering all read, and the words of their forms beside it.
 #![tactic(auto)]
 
-ghost use Rattle.std.specs.Prelude.{◌≡◌};
-ghost use Rattle.kinds.specs.Kinds.{table, cell, word_of, in_field, begins};
+ghost use Rattle.std.specs.Prelude.{◌≡◌, ◌<◌, get_or};
+ghost use Rattle.kinds.specs.Kinds.{table, cell, word_of, padded, begins};
+
+// Kinds, columns and codes are numbers, no enums: `look` and `cell_of` answer for each byte, and `look` for each table of bytes that is lent.
 
 // The kinds that are told apart: the declarations, the first and the last rule, a component that is fixed, one of a center that is fixed,
 // and the guesses of a pair and of a number.
@@ -84,9 +86,8 @@ const ROWS: usize = 26;
 
 const COLUMNS: usize = 8;
 
-// A row for each kind, indexed by its number; row 0 is no kind. It is taken once a call and lent, since a constant array is built
-// anew wherever it is named.
-pub const KINDS: [[u8; 8]; 26] = [
+// A row for each kind, indexed by its number; row 0 is no kind.
+pub static KINDS: [[u8; COLUMNS]; ROWS] = [
     [0, UNUSED, UNUSED, UNUSED, UNUSED, ZERO, NONE, PLAIN], // 0 no kind
     [1, NEW, UNUSED, UNUSED, UNUSED, ZERO, NONE, PLAIN], // 1 DeclarePoint
     [1, NEW, UNUSED, UNUSED, UNUSED, ZERO, NONE, PLAIN], // 2 DeclareCircle
@@ -116,69 +117,75 @@ pub const KINDS: [[u8; 8]; 26] = [
 ];
 
 // A cell of a table of kinds, and 0 past its end.
-pub fn look(kinds: &[[u8; 8]; 26], kind: u8, column: usize) -> u8
+#[tactic(auto, unfolding(crate::specs::Kinds::cell))]
+pub fn look(kinds: &[[u8; COLUMNS]; ROWS], kind: u8, column: usize) -> u8
     ensures { result ≡ cell kinds.now kind column }
 {
-    let row = kind as usize;
-    if ROWS <= row {
-        return 0;
+    let row = usize::from(kind);
+    if (row < ROWS) & (column < COLUMNS) {
+        kinds[row][column]
+    } else {
+        0
     }
-    if COLUMNS <= column {
-        return 0;
-    }
-    kinds[row][column]
 }
 
 // A cell of the table itself, for who looks once.
 pub fn cell_of(kind: u8, column: usize) -> u8
     ensures { result ≡ cell table kind column }
 {
-    let kinds = KINDS;
-    look(&kinds, kind, column)
+    look(&KINDS, kind, column)
 }
 
-// A word in a field of twenty bytes, and how long it is.
-#[derive(Clone, Copy)]
-pub struct Word(pub [u8; 20], pub usize);
+// The words of the kinds' forms, indexed by a kind's number; none for a form that begins with a label.
+static WORDS: [&[u8]; ROWS] = [
+    b"", // 0 no kind
+    b"point",
+    b"circle",
+    b"arc",
+    b"", // 4 FixPointComponent
+    b"vertical",
+    b"horizontal",
+    b"distance",
+    b"parallel",
+    b"perpendicular",
+    b"lines_at_angle",
+    b"coincident",
+    b"point_arc_coincident",
+    b"midpoint",
+    b"symmetric",
+    b"radius",
+    b"tangent",
+    b"arc_radius",
+    b"", // 18 FixCenterPointComponent
+    b"lines_equal_length",
+    b"is_arc",
+    b"point_line_distance",
+    b"line",
+    b"arc_length",
+    b"", // 24 point guess
+    b"", // 25 scalar guess
+];
 
-// The word that a kind's form begins with; none for a form that begins with a label, and past the last kind.
-pub fn word_of(kind: u8) -> Word
-    ensures { result ≡ in_field (word_of kind) }
+// The word that a kind's form begins with; none past the last kind.
+pub fn word_of(kind: u8) -> &'static [u8]
+    ensures { result.now ≡ word_of kind }
 {
-    match kind {
-        1 => Word(*b"point               ", 5),
-        2 => Word(*b"circle              ", 6),
-        3 => Word(*b"arc                 ", 3),
-        4 => Word(*b"                    ", 0),
-        5 => Word(*b"vertical            ", 8),
-        6 => Word(*b"horizontal          ", 10),
-        7 => Word(*b"distance            ", 8),
-        8 => Word(*b"parallel            ", 8),
-        9 => Word(*b"perpendicular       ", 13),
-        10 => Word(*b"lines_at_angle      ", 14),
-        11 => Word(*b"coincident          ", 10),
-        12 => Word(*b"point_arc_coincident", 20),
-        13 => Word(*b"midpoint            ", 8),
-        14 => Word(*b"symmetric           ", 9),
-        15 => Word(*b"radius              ", 6),
-        16 => Word(*b"tangent             ", 7),
-        17 => Word(*b"arc_radius          ", 10),
-        18 => Word(*b"                    ", 0),
-        19 => Word(*b"lines_equal_length  ", 18),
-        20 => Word(*b"is_arc              ", 6),
-        21 => Word(*b"point_line_distance ", 19),
-        22 => Word(*b"line                ", 4),
-        23 => Word(*b"arc_length          ", 10),
-        24 => Word(*b"                    ", 0),
-        25 => Word(*b"                    ", 0),
-        _ => Word(*b"                    ", 0),
-    }
+    let row = usize::from(kind);
+    if row < ROWS { WORDS[row] } else { b"" }
+}
+
+// The byte of a word at a place, and a blank past its end.
+fn byte_or_blank(word: &[u8], at: usize) -> u8
+    requires { at < 20 }
+    ensures { result ≡ get_or (padded word.now) at 0 }
+{
+    if at < word.len() { word[at] } else { b' ' }
 }
 
 // Whether a kind's word begins with these two bytes: a quick look, before the word is read.
 pub fn may_begin(kind: u8, a: u8, b: u8) -> bool
     ensures { result ≡ begins (word_of kind) a b }
 {
-    let word = word_of(kind).0;
-    (word[0] == a) & (word[1] == b)
+    let word = word_of(kind);
+    (byte_or_blank(word, 0) == a) & (byte_or_blank(word, 1) == b)
 }

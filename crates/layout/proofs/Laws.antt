@@ -1,5 +1,5 @@
 -- The tests of a layout, case by case, for a shape of any kind. Assumes nothing.
-use mathlib.Core.Path.{◌≡◌, refl, ◌∙◌, ap}
+use mathlib.Core.Path.{◌≡◌, refl, ap}
 use mathlib.Core.Bool.{Bool, true, false, not, ◌&&◌, ◌||◌, and-false}
 use Prim.Native.Nat.{ℕ, zero, suc, ◌+◌, ◌-◌, ◌≤◌, ◌<◌}
 use native.Mathlib.Omega.{arith}
@@ -7,17 +7,14 @@ use mathlib.Core.List.{List, ◌∷◌, ◌++◌}
 use lib.ListN.{length}
 use lib.Ieee.{Float}
 use lib.Dec.{ltb, eqb}
+use Rattle.std.specs.Prelude.{Result, Ok, Err}
 use borrow.Author.Tests.{le-ltb, lt-leb, eq-eqb, ne_eqb, ltb-false, leb-false, eqb-true, not-false}
 use Rattle.layout.specs.declared.ShapeKind.{ShapeKind}
 use Rattle.layout.specs.declared.ShapeKind.TheVariants.{Point, Circle, Arc}
 use Rattle.layout.specs.declared.Layout.{Layout}
-use Rattle.layout.specs.declared.Place.{Place}
-use Rattle.layout.specs.declared.Place.TheVariants.{At, Not}
 use Rattle.layout.specs.Slots.{size_of, shapes_in, with_one, slot_count, slot_of, stage_number, stage_due, most_shapes, ids_end}
-use Rattle.layout.specs.Steps.{Small, next_after}
-use Rattle.layout.specs.declared.Stepped.TheVariants as S
+use Rattle.layout.specs.Steps.{Small}
 use Rattle.layout.specs.declared.Pushed.{Pushed}
-use Rattle.layout.specs.declared.Pushed.TheVariants as P
 use Rattle.refusal.specs.declared.Refusal.{Refusal}
 use Rattle.refusal.specs.First.{passed, answered}
 use Rattle.refusal.specs.Refusal.{refusal}
@@ -69,19 +66,12 @@ told r = refusal (reason_number r) 0
 
 -- ---- a push
 
--- a test for another stage, at the stage that is due and at another
-pub at_stage : (a b : ℕ) → a ≡ b → not (eqb a b) ≡ false
-at_stage a b e = rw (eq-eqb a b e)
-
-pub off_stage : (a b : ℕ) → (a ≡ b → ⊥) → not (eqb a b) ≡ true
-off_stage a b f = rw (ne_eqb a b f)
-
 -- the first of the tests that passes is told
 pub push_first : (k : ShapeKind) (l : Layout) (next ids values : ℕ) (before : List Reason) (r : Reason) (after : List Reason) → push_order ≡ before ++ (r ∷ after)
     → Clear before (bars_push k l next ids values) → bars_push k l next ids values r ≡ true
-    → Not (told r) ≡ answered reason_number Not (push_told k l next ids values) (At (slot_count l))
+    → ◌≡◌ {A = Result ℕ Refusal} (Err (told r)) (answered reason_number Err (push_told k l next ids values) (Ok (slot_count l)))
 unfolding push_told
-push_first k l next ids values before r after o c t = rw o (answered_first reason_number Not _ (bars_push k l next ids values) before r after c t)
+push_first k l next ids values before r after o c t = rw o (answered_first reason_number Err _ (bars_push k l next ids values) before r after c t)
 
 -- what is known where a shape is taken
 pub record Fits (k : ShapeKind) (l : Layout) (next ids values : ℕ) : Type 0 where
@@ -107,36 +97,42 @@ push_passes k l next ids values c = clear_passes (bars_push k l next ids values)
 
 pub fits_passes : (k : ShapeKind) (l : Layout) (next ids values : ℕ) → impossible l ≡ false → Fits k l next ids values → push_told k l next ids values ≡ passed
 fits_passes k l next ids values e f =
+    let at_stage : not (eqb (stage_number l.stage) (stage_due k)) ≡ false = rw (eq-eqb _ _ f.due) in
     push_passes k l next ids values
-    (e, (at_stage _ _ f.due, (lt-leb _ _ f.room, (rw (le-ltb _ _ f.in_ids, le-ltb _ _ f.in_values), (le-ltb _ _ f.left, tt)))))
+    (e, (at_stage, (lt-leb _ _ f.room, (rw (le-ltb _ _ f.in_ids, le-ltb _ _ f.in_values), (le-ltb _ _ f.left, tt)))))
 
-module _ (k : ShapeKind) (vs : List Float) (s : State) (place : Place) (asked : place ≡ answered reason_number Not (told_in k s) (At (slot_count s.layout))) where
+module _ (k : ShapeKind) (vs : List Float) (s : State) (place : Result ℕ Refusal) (asked : place ≡ answered reason_number Err (told_in k s) (Ok (slot_count s.layout))) where
   -- a refusal of the place is one of the push, which changes nothing
-  pub push_refused : (r : Refusal) → place ≡ Not r → Fills k vs s (P.Refused r) s.ids s.values
+  pub push_refused : (r : Refusal) → place ≡ Err r → Fills k vs s (Err r) s.ids s.values
   push_refused r e =
       let same : s ≡ pushed k vs s = as_refused _ _ _ asked (λ r. s) (filled k vs s) r e in
       record { answer = as_refused _ _ _ asked _ _ r e; ids_are = ap (λ (z : State). z.ids) same; values_are = ap (λ (z : State). z.values) same }
 
-  -- at the place the ids and the components are laid over the slices
-  pub push_filled : (at : ℕ) → place ≡ At at → (l : Layout) (ids : List ℕ) (values : List Float)
-      → l ≡ with_one k s.layout → ids ≡ over s.ids at (onward s.next (length vs)) → values ≡ over s.values at vs
-      → Fills k vs s (P.Good l (s.next + length vs)) ids values
+  -- at the place the ids and the components are laid over the slices: n of each
+  pub push_filled : (at n : ℕ) → place ≡ Ok at → n ≡ length vs → (l : Layout) (ids : List ℕ) (values : List Float)
+      → l ≡ with_one k s.layout → ids ≡ over s.ids at (onward s.next n) → values ≡ over s.values at vs
+      → Fills k vs s (Ok (record { layout = l; next = s.next + n })) ids values
   unfolding answered
-  push_filled at e l ids values l-is ids-is values-is =
+  push_filled at n e long l ids values l-is ids-is values-is =
       let here = placed (told_in k s) (slot_count s.layout) place asked at e in
       record { answer = cc; ids_are = cc; values_are = cc }
 
--- the next id that an answer says is the state's
-pub next_is : (k : ShapeKind) (vs : List Float) (s : State) (r : Pushed) (ids : List ℕ) (values : List Float) → Fills k vs s r ids values → next_after r s.next ≡ (pushed k vs s).next
-next_is k vs s r ids values f = ap (λ (z : Pushed). next_after z s.next) f.answer ∙ answered_pair reason_number (λ (z : Pushed) (t : State). next_after z s.next ≡ t.next) _ _ (told_in k s) _ _ (λ r. refl) (λ c. refl)
+-- the next id of a good answer is the state's, and a refusal leaves it
+pub good_next : (k : ShapeKind) (vs : List Float) (s : State) (p : Pushed) (ids : List ℕ) (values : List Float) → Fills k vs s (Ok p) ids values → p.next ≡ (pushed k vs s).next
+good_next k vs s p ids values f =
+    answered_pair reason_number (λ (z : Result Pushed Refusal) (t : State). Ok p ≡ z → p.next ≡ t.next) _ _ (told_in k s) _ _ (λ r e. absurd cc) (λ c e. cc) f.answer
+
+pub refused_next : (k : ShapeKind) (vs : List Float) (s : State) (r : Refusal) (ids : List ℕ) (values : List Float) → Fills k vs s (Err r) ids values → s.next ≡ (pushed k vs s).next
+refused_next k vs s r ids values f =
+    answered_pair reason_number (λ (z : Result Pushed Refusal) (t : State). Err r ≡ z → s.next ≡ t.next) _ _ (told_in k s) _ _ (λ r e. refl) (λ c e. absurd cc) f.answer
 
 -- ---- `done`
 
 -- the first of the tests that passes is told
 pub done_first : (l : Layout) (before : List Reason) (r : Reason) (after : List Reason) → done_order ≡ before ++ (r ∷ after)
-    → Clear before (bars_done l) → bars_done l r ≡ true → S.Refused (told r) ≡ done_of l
+    → Clear before (bars_done l) → bars_done l r ≡ true → Err (told r) ≡ done_of l
 unfolding done_of done_told
-done_first l before r after o c t = rw o (answered_first reason_number S.Refused _ (bars_done l) before r after c t)
+done_first l before r after o c t = rw o (answered_first reason_number Err _ (bars_done l) before r after c t)
 
 pub done_passes : (l : Layout) → impossible l ≡ false → (stage_number l.stage ≡ 3 → ⊥) → done_told l ≡ passed
 unfolding done_told
@@ -146,9 +142,9 @@ done_passes l e n = clear_passes (bars_done l) done_order (e, (ne_eqb _ _ n, tt)
 
 -- the first of the tests that passes is told
 pub look_first : (k : ShapeKind) (l : Layout) (len i : ℕ) (before : List Reason) (r : Reason) (after : List Reason) → look_order ≡ before ++ (r ∷ after)
-    → Clear before (bars_look k l len i) → bars_look k l len i r ≡ true → Not (told r) ≡ answered reason_number Not (look_told k l len i) (At (slot_of k l i))
+    → Clear before (bars_look k l len i) → bars_look k l len i r ≡ true → ◌≡◌ {A = Result ℕ Refusal} (Err (told r)) (answered reason_number Err (look_told k l len i) (Ok (slot_of k l i)))
 unfolding look_told
-look_first k l len i before r after o c t = rw o (answered_first reason_number Not _ (bars_look k l len i) before r after c t)
+look_first k l len i before r after o c t = rw o (answered_first reason_number Err _ (bars_look k l len i) before r after c t)
 
 -- the slots of a shape that is counted lie among the layout's
 pub slot_inside : (k : ShapeKind) (l : Layout) (i : ℕ) → i < shapes_in k l → slot_of k l i + size_of k ≤ slot_count l
@@ -168,7 +164,7 @@ found k l len i e =
     omega (arith, small l c.0, ltb-false, leb-false, slot_inside k l i (leb-false _ _ c.1.1.0))
 
 -- where a shape is found, its slots lie in the slice
-pub look_inside : (k : ShapeKind) (l : Layout) (len i : ℕ) (place : Place) → place ≡ answered reason_number Not (look_told k l len i) (At (slot_of k l i)) → (at : ℕ) → place ≡ At at → at + size_of k ≤ len
+pub look_inside : (k : ShapeKind) (l : Layout) (len i : ℕ) (place : Result ℕ Refusal) → place ≡ answered reason_number Err (look_told k l len i) (Ok (slot_of k l i)) → (at : ℕ) → place ≡ Ok at → at + size_of k ≤ len
 look_inside k l len i place asked at e = let p = placed _ _ _ asked at e in omega (arith, found k l len i p.1)
 
 pub look_passes : (k : ShapeKind) (l : Layout) (len i : ℕ) → impossible l ≡ false → slot_count l ≤ len → i < shapes_in k l → look_told k l len i ≡ passed

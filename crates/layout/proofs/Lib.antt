@@ -1,10 +1,11 @@
 pub mod Placed
-pub mod Laws
 pub mod Onward
 pub mod Storing
+pub mod Stages
+pub mod Laws
 pub mod Runs
 pub mod Accepted
 pub mod Agree
 pub mod Parts
-pub mod Only
 pub mod Claims
+pub mod Only

@@ -10,6 +10,7 @@ use native.Mathlib.Nat.{suc-mul, zero-mul, add-zero}
 use lib.ListN.{length, drop, get_or, set, length-set, length-append}
 use lib.Seq.{get_or-set_same, get_or-set_other, get_or_at, get_or-append-add}
 use lib.Ieee.{Float, nan}
+use Rattle.std.specs.Prelude.{Ok}
 use borrow.Author.Count.{below_none, below_more}
 use Rattle.layout.specs.declared.ShapeKind.{ShapeKind}
 use Rattle.layout.specs.declared.ShapeKind.TheVariants as K
@@ -21,13 +22,10 @@ use Rattle.layout.specs.declared.Arc.{Arc}
 use Rattle.layout.specs.Slots.{Figure, point, circle, arc, kind_of, components, size_of, shapes_in, slot_count, kind_start, slot_of, empty}
 use Rattle.layout.specs.Refusals.{reason_number, impossible}
 use Rattle.layout.specs.Push.{State, state}
-use Rattle.layout.specs.Look.{point_read, circle_read, arc_read}
+use Rattle.layout.specs.Look.{looked}
 use Rattle.layout.specs.Run.{run, all_components, shapes_of, run_of, RunRoom, AllIn}
 use Rattle.layout.specs.Parts.{Component, Has, slot_for, shape_at, ReadsShape, ReadsBack, ReadBack}
 use Rattle.refusal.proofs.Once.{answered_passed}
-use Rattle.layout.specs.declared.PointRead.TheVariants as PR
-use Rattle.layout.specs.declared.CircleRead.TheVariants as CR
-use Rattle.layout.specs.declared.ArcRead.TheVariants as AR
 use Rattle.layout.proofs.Laws.{can_be, slot_inside, look_passes}
 use Rattle.layout.proofs.Runs.{components_length, all_append, kept}
 use Rattle.layout.proofs.Accepted.{all_in}
@@ -63,7 +61,7 @@ one_part l K.Arc K.Arc i i' j j' h h' e = let a : i ≡ i' = omega arith in let 
 -- a shape that is counted is read out
 module _ (l : Layout) (values : List Float) (possible : impossible l ≡ false) (long : slot_count l ≤ length values) where
   pub reads : (k : ShapeKind) (i : ℕ) → i < shapes_in k l → ReadsShape k l values i
-  unfolding point_read circle_read arc_read
+  unfolding looked
   reads K.Point i h = answered_passed reason_number _ _ _ (look_passes K.Point l (length values) i possible long h)
   reads K.Circle i h = answered_passed reason_number _ _ _ (look_passes K.Circle l (length values) i possible long h)
   reads K.Arc i h = answered_passed reason_number _ _ _ (look_passes K.Arc l (length values) i possible long h)
@@ -149,12 +147,12 @@ module _ (next : ℕ) (ids : List ℕ) (values : List Float) (ps : List Point) (
       let m = all_length circle K.Circle (λ c. refl) cs in
       let s = length-append (all_components (map point ps)) (all_components (map circle cs)) in
       record {
-        points = λ i other h. let r = read_one point K.Point (λ p. refl) [] _ ps stored refl (sym (counted K.Point)) i other h in r.0 ∙ ap PR.Found (cc r.1);
+        points = λ i other h. let r = read_one point K.Point (λ p. refl) [] _ ps stored refl (sym (counted K.Point)) i other h in r.0 ∙ ap Ok (cc r.1);
         circles = λ i other h.
             let r = read_one circle K.Circle (λ c. refl) (all_components (map point ps)) _ cs stored (omega (arith, counted K.Point)) (sym (counted K.Circle)) i other h in
-            r.0 ∙ ap CR.Found (cc r.1);
+            r.0 ∙ ap Ok (cc r.1);
         arcs = λ i other h.
             let r = read_one arc K.Arc (λ a. refl) (all_components (map point ps) ++ all_components (map circle cs)) _ xs (rw (← append_assoc) at stored)
             (omega (arith, counted K.Point, counted K.Circle)) (sym (counted K.Arc)) i other h in
-            r.0 ∙ ap AR.Found (cc r.1);
+            r.0 ∙ ap Ok (cc r.1);
       }

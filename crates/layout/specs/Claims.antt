@@ -1,8 +1,7 @@
 -- What is claimed of the layout: of its two lookups of arcs, of runs of pushes, and of the readout.
-use Rattle.std.specs.Prelude.{ℕ, ◌≤◌, ◌<◌, ◌≡◌, false, ◌⊎◌, ◌↔◌, List, length, Float}
+use Rattle.std.specs.Prelude.{ℕ, ◌≤◌, ◌<◌, ◌≡◌, false, ◌⊎◌, ◌↔◌, List, length, Float, Ok, Err}
 use Rattle.layout.specs.declared.Layout.{Layout}
 use Rattle.refusal.specs.declared.Refusal.{Refusal}
-use Rattle.layout.specs.declared.Pushed.TheVariants as P
 use Rattle.layout.specs.declared.Point.{Point}
 use Rattle.layout.specs.declared.Circle.{Circle}
 use Rattle.layout.specs.declared.Arc.{Arc}
@@ -22,11 +21,11 @@ ArcsAgree =
 -- a push that is answered with a layout and the next id: they and the slices are the state after the push
 abbrev pub GoodPush : Type 0
 GoodPush =
-    (shape : Figure) (s : State) (l : Layout) (next : ℕ) (ids : List ℕ) (values : List Float) → Push shape s (P.Good l next) ids values → state l next ids values ≡ after shape s
+    (shape : Figure) (s : State) (l : Layout) (next : ℕ) (ids : List ℕ) (values : List Float) → Push shape s (Ok (record { layout = l; next = next })) ids values → state l next ids values ≡ after shape s
 
 -- a push that is refused changes nothing
 abbrev pub RefusedPush : Type 0
-RefusedPush = (shape : Figure) (s : State) (r : Refusal) (ids : List ℕ) (values : List Float) → Push shape s (P.Refused r) ids values → (ids ≡ s.ids) × (values ≡ s.values) × (s ≡ after shape s)
+RefusedPush = (shape : Figure) (s : State) (r : Refusal) (ids : List ℕ) (values : List Float) → Push shape s (Err r) ids values → (ids ≡ s.ids) × (values ≡ s.values) × (s ≡ after shape s)
 
 -- after any run from an empty layout, the shapes that were accepted are laid out, and the others changed nothing
 abbrev pub AnyRun : Type 0

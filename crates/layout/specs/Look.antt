@@ -1,7 +1,9 @@
 -- What the lookups of ids and the readout answer, by the number of a shape.
-use Rattle.std.specs.Prelude.{ℕ, ◌+◌, ◌*◌, List, length, get_or, Float}
+use Rattle.std.specs.Prelude.{ℕ, ◌+◌, ◌*◌, List, length, get_or, Float, Result, Ok, Err}
 use Rattle.std.specs.Float.{nan}
+use Rattle.refusal.specs.declared.Refusal.{Refusal}
 use Rattle.refusal.specs.First.{answered}
+use Rattle.layout.specs.declared.ShapeKind.{ShapeKind}
 use Rattle.layout.specs.declared.ShapeKind.TheVariants.{Point, Circle, Arc}
 use Rattle.layout.specs.declared.Layout.{Layout}
 use Rattle.layout.specs.declared.Point as DP
@@ -10,20 +12,18 @@ use Rattle.layout.specs.declared.Arc as DA
 use Rattle.layout.specs.declared.PointVars.{PointVars}
 use Rattle.layout.specs.declared.CircleVars.{CircleVars}
 use Rattle.layout.specs.declared.ArcVars.{ArcVars}
-use Rattle.layout.specs.declared.PointIds.{PointIds}
-use Rattle.layout.specs.declared.PointIds.TheVariants as PI
-use Rattle.layout.specs.declared.CircleIds.{CircleIds}
-use Rattle.layout.specs.declared.CircleIds.TheVariants as CI
-use Rattle.layout.specs.declared.ArcIds.{ArcIds}
-use Rattle.layout.specs.declared.ArcIds.TheVariants as AI
-use Rattle.layout.specs.declared.PointRead.{PointRead}
-use Rattle.layout.specs.declared.PointRead.TheVariants as PR
-use Rattle.layout.specs.declared.CircleRead.{CircleRead}
-use Rattle.layout.specs.declared.CircleRead.TheVariants as CR
-use Rattle.layout.specs.declared.ArcRead.{ArcRead}
-use Rattle.layout.specs.declared.ArcRead.TheVariants as AR
 use Rattle.layout.specs.Slots.{size_of, slot_of}
 use Rattle.layout.specs.Refusals.{reason_number, look_told}
+
+-- ---- any shape, in numbers or in ids
+
+-- what is told of shape i of a kind in a slice of a length, and else what is good
+abbrev pub look_answer : {A : Type 0} → ShapeKind → Layout → ℕ → ℕ → A → Result A Refusal
+look_answer k l len i good = answered reason_number Err (look_told k l len i) (Ok good)
+
+-- shape i of a kind, as it is read from a slot on
+unfoldable pub looked : {X A : Type 0} → ShapeKind → (List X → ℕ → A) → Layout → List X → ℕ → Result A Refusal
+looked k read l slots i = look_answer k l (length slots) i (read slots (slot_of k l i))
 
 -- ---- ids
 
@@ -44,24 +44,20 @@ arc_vars ids at = record {
 }
 
 -- the ids of point i
-unfoldable pub point_ids : Layout → List ℕ → ℕ → PointIds
-point_ids l ids i = answered reason_number PI.Refused (look_told Point l (length ids) i) (PI.Found (point_vars ids (slot_of Point l i)))
+abbrev pub point_ids : Layout → List ℕ → ℕ → Result PointVars Refusal
+point_ids = looked Point point_vars
 
 -- the ids of circle i
-unfoldable pub circle_ids : Layout → List ℕ → ℕ → CircleIds
-circle_ids l ids i = answered reason_number CI.Refused (look_told Circle l (length ids) i) (CI.Found (circle_vars ids (slot_of Circle l i)))
-
--- the ids of arc i, taken from a slot on
-abbrev pub arc_ids_at : Layout → List ℕ → ℕ → ℕ → ArcIds
-arc_ids_at l ids i at = answered reason_number AI.Refused (look_told Arc l (length ids) i) (AI.Found (arc_vars ids at))
+abbrev pub circle_ids : Layout → List ℕ → ℕ → Result CircleVars Refusal
+circle_ids = looked Circle circle_vars
 
 -- the ids of arc i as geometry_variables.rs has it, from 2P on
-unfoldable pub arc_ids : Layout → List ℕ → ℕ → ArcIds
-arc_ids l ids i = arc_ids_at l ids i (l.points * size_of Point + i * size_of Arc)
+unfoldable pub arc_ids : Layout → List ℕ → ℕ → Result ArcVars Refusal
+arc_ids l ids i = look_answer Arc l (length ids) i (arc_vars ids (l.points * size_of Point + i * size_of Arc))
 
 -- the ids of arc i by the added lookup, from 2P+3C on
-unfoldable pub arc_slot_ids : Layout → List ℕ → ℕ → ArcIds
-arc_slot_ids l ids i = arc_ids_at l ids i (slot_of Arc l i)
+abbrev pub arc_slot_ids : Layout → List ℕ → ℕ → Result ArcVars Refusal
+arc_slot_ids = looked Arc arc_vars
 
 -- ---- values
 
@@ -82,13 +78,13 @@ arc_at values at = record {
 }
 
 -- point i, read out
-unfoldable pub point_read : Layout → List Float → ℕ → PointRead
-point_read l values i = answered reason_number PR.Refused (look_told Point l (length values) i) (PR.Found (point_at values (slot_of Point l i)))
+abbrev pub point_read : Layout → List Float → ℕ → Result DP.Point Refusal
+point_read = looked Point point_at
 
 -- circle i, read out
-unfoldable pub circle_read : Layout → List Float → ℕ → CircleRead
-circle_read l values i = answered reason_number CR.Refused (look_told Circle l (length values) i) (CR.Found (circle_at values (slot_of Circle l i)))
+abbrev pub circle_read : Layout → List Float → ℕ → Result DC.Circle Refusal
+circle_read = looked Circle circle_at
 
 -- arc i, read out
-unfoldable pub arc_read : Layout → List Float → ℕ → ArcRead
-arc_read l values i = answered reason_number AR.Refused (look_told Arc l (length values) i) (AR.Found (arc_at values (slot_of Arc l i)))
+abbrev pub arc_read : Layout → List Float → ℕ → Result DA.Arc Refusal
+arc_read = looked Arc arc_at

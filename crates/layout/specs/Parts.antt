@@ -1,5 +1,5 @@
 -- The parts of a layout, each in a slot of its own, and how a readout shows them.
-use Rattle.std.specs.Prelude.{ℕ, ◌+◌, ◌<◌, ◌≡◌, List, length, get_or, set, Float}
+use Rattle.std.specs.Prelude.{ℕ, ◌+◌, ◌<◌, ◌≡◌, List, length, get_or, set, Float, Ok}
 use Rattle.std.specs.Float.{nan}
 use Rattle.layout.specs.declared.ShapeKind.{ShapeKind}
 use Rattle.layout.specs.declared.ShapeKind.TheVariants as K
@@ -7,9 +7,6 @@ use Rattle.layout.specs.declared.Layout.{Layout}
 use Rattle.layout.specs.declared.Point.{Point}
 use Rattle.layout.specs.declared.Circle.{Circle}
 use Rattle.layout.specs.declared.Arc.{Arc}
-use Rattle.layout.specs.declared.PointRead.TheVariants as PR
-use Rattle.layout.specs.declared.CircleRead.TheVariants as CR
-use Rattle.layout.specs.declared.ArcRead.TheVariants as AR
 use Rattle.layout.specs.Slots.{Figure, point, circle, arc, components, size_of, shapes_in, slot_count, slot_of}
 use Rattle.layout.specs.Look.{point_at, circle_at, arc_at, point_read, circle_read, arc_read}
 use Rattle.layout.specs.Push.{State}
@@ -40,9 +37,9 @@ part_read l values p = get_or (components (shape_at p.kind values (slot_of p.kin
 
 -- the readout of shape i of a kind finds it there
 abbrev pub ReadsShape : ShapeKind → Layout → List Float → ℕ → Type 0
-ReadsShape K.Point l values i = point_read l values i ≡ PR.Found (point_at values (slot_of K.Point l i))
-ReadsShape K.Circle l values i = circle_read l values i ≡ CR.Found (circle_at values (slot_of K.Circle l i))
-ReadsShape K.Arc l values i = arc_read l values i ≡ AR.Found (arc_at values (slot_of K.Arc l i))
+ReadsShape K.Point l values i = point_read l values i ≡ Ok (point_at values (slot_of K.Point l i))
+ReadsShape K.Circle l values i = circle_read l values i ≡ Ok (circle_at values (slot_of K.Circle l i))
+ReadsShape K.Arc l values i = arc_read l values i ≡ Ok (arc_at values (slot_of K.Arc l i))
 
 -- a value put in a part's slot is read out as that part and as no other
 pub record ReadsBack (l : Layout) (values : List Float) (p : Component) (x : Float) : Type 0 where
@@ -55,6 +52,6 @@ pub record ReadsBack (l : Layout) (values : List Float) (p : Component) (x : Flo
 
 -- each shape is read out by its number; `other` stands for what is past the end
 pub record ReadBack (last : State) (ps : List Point) (cs : List Circle) (xs : List Arc) : Type 0 where
-  pub points : (i : ℕ) (other : Point) → i < length ps → point_read last.layout last.values i ≡ PR.Found (get_or ps i other)
-  pub circles : (i : ℕ) (other : Circle) → i < length cs → circle_read last.layout last.values i ≡ CR.Found (get_or cs i other)
-  pub arcs : (i : ℕ) (other : Arc) → i < length xs → arc_read last.layout last.values i ≡ AR.Found (get_or xs i other)
+  pub points : (i : ℕ) (other : Point) → i < length ps → point_read last.layout last.values i ≡ Ok (get_or ps i other)
+  pub circles : (i : ℕ) (other : Circle) → i < length cs → circle_read last.layout last.values i ≡ Ok (get_or cs i other)
+  pub arcs : (i : ℕ) (other : Arc) → i < length xs → arc_read last.layout last.values i ≡ Ok (get_or xs i other)

@@ -1,5 +1,6 @@
 -- What the pushes and `done` answer, and what the lent slices and the lent counter hold after them.
-use Rattle.std.specs.Prelude.{ℕ, zero, suc, ◌+◌, ◌≡◌, List, [], ◌∷◌, ◌++◌, length, take, drop, Float}
+use Rattle.std.specs.Prelude.{ℕ, zero, suc, ◌+◌, ◌≡◌, List, [], ◌∷◌, ◌++◌, length, take, drop, Float, Result, Ok, Err}
+use Rattle.refusal.specs.declared.Refusal.{Refusal}
 use Rattle.refusal.specs.First.{Answer, answered}
 use Rattle.layout.specs.declared.Stage.{Stage}
 use Rattle.layout.specs.declared.Stage.TheVariants.{Points, Circles, Arcs, Done}
@@ -7,9 +8,6 @@ use Rattle.layout.specs.declared.ShapeKind.{ShapeKind}
 use Rattle.layout.specs.declared.Layout.{Layout}
 use Rattle.layout.specs.declared.Counter.{Counter}
 use Rattle.layout.specs.declared.Pushed.{Pushed}
-use Rattle.layout.specs.declared.Pushed.TheVariants as P
-use Rattle.layout.specs.declared.Stepped.{Stepped}
-use Rattle.layout.specs.declared.Stepped.TheVariants as S
 use Rattle.layout.specs.Slots.{Figure, kind_of, components, slot_count, with_one}
 use Rattle.layout.specs.Refusals.{Reason, reason_number, push_told, done_told}
 
@@ -51,13 +49,13 @@ abbrev pub pushed : ShapeKind → List Float → State → State
 pushed k vs s = answered reason_number (λ r. s) (told_in k s) (filled k vs s)
 
 -- a push of a shape of a kind by its components: its answer and the two slices after it
-pub record Fills (k : ShapeKind) (vs : List Float) (s : State) (r : Pushed) (ids : List ℕ) (values : List Float) : Type 0 where
-  pub answer : r ≡ answered reason_number P.Refused (told_in k s) (P.Good (filled k vs s).layout (filled k vs s).next)
+pub record Fills (k : ShapeKind) (vs : List Float) (s : State) (r : Result Pushed Refusal) (ids : List ℕ) (values : List Float) : Type 0 where
+  pub answer : r ≡ answered reason_number Err (told_in k s) (Ok (record { layout = (filled k vs s).layout; next = (filled k vs s).next }))
   pub ids_are : ids ≡ (pushed k vs s).ids
   pub values_are : values ≡ (pushed k vs s).values
 
 -- a push of a shape
-abbrev pub Push : Figure → State → Pushed → List ℕ → List Float → Type 0
+abbrev pub Push : Figure → State → Result Pushed Refusal → List ℕ → List Float → Type 0
 Push shape = Fills (kind_of shape) (components shape)
 
 -- the state after a push of a shape
@@ -65,7 +63,7 @@ abbrev pub after : Figure → State → State
 after shape = pushed (kind_of shape) (components shape)
 
 -- a push with the counter lent: the push at the counter's number, and the counter after it
-pub record PushLent (shape : Figure) (l : Layout) (c : Counter) (ids : List ℕ) (values : List Float) (r : Pushed) (c' : Counter) (ids' : List ℕ) (values' : List Float) : Type 0 where
+pub record PushLent (shape : Figure) (l : Layout) (c : Counter) (ids : List ℕ) (values : List Float) (r : Result Pushed Refusal) (c' : Counter) (ids' : List ℕ) (values' : List Float) : Type 0 where
   pub push : Push shape (state l c.next ids values) r ids' values'
   pub counter_is : c' ≡ record { next = (after shape (state l c.next ids values)).next }
 
@@ -81,5 +79,5 @@ abbrev pub stepped : Layout → Layout
 stepped l = record { points = l.points; circles = l.circles; arcs = l.arcs; stage = stage_after l.stage }
 
 -- what `done` answers
-unfoldable pub done_of : Layout → Stepped
-done_of l = answered reason_number S.Refused (done_told l) (S.Good (stepped l))
+unfoldable pub done_of : Layout → Result Layout Refusal
+done_of l = answered reason_number Err (done_told l) (Ok (stepped l))

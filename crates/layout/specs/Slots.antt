@@ -1,5 +1,5 @@
 -- Slots: all points (x, y), then circles (center x, center y, radius), then arcs (a.x, a.y, b.x, b.y, center.x, center.y).
-use Rattle.std.specs.Prelude.{ℕ, ◌+◌, ◌*◌, List, [], ◌∷◌, Float}
+use Rattle.std.specs.Prelude.{ℕ, ◌+◌, ◌*◌, cond, eqb, Option, Some, None, List, [], ◌∷◌, Float}
 use Rattle.layout.specs.declared.Stage.{Stage}
 use Rattle.layout.specs.declared.Stage.TheVariants.{Points, Circles, Arcs, Done}
 use Rattle.layout.specs.declared.ShapeKind.{ShapeKind}
@@ -87,6 +87,10 @@ stage_number Points = 0
 stage_number Circles = 1
 stage_number Arcs = 2
 stage_number Done = 3
+
+-- the stage with a number, if there is one
+abbrev pub stage_numbered : ℕ → Option Stage
+stage_numbered n = cond (eqb n 0) (Some Points) (cond (eqb n 1) (Some Circles) (cond (eqb n 2) (Some Arcs) (cond (eqb n 3) (Some Done) None)))
 
 -- the number of the stage at which shapes of a kind are pushed
 abbrev pub stage_due : ShapeKind → ℕ

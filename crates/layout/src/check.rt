@@ -1,181 +1,171 @@
 // The tests behind the refusals of a layout, and what they are of: counts, sizes and slots.
-ghost use Rattle.std.specs.Prelude.{◌≡◌, ◌≤◌};
+ghost use Rattle.std.specs.Prelude.{◌≡◌, ◌≤◌, Ok, Err};
 ghost use Rattle.layout.specs.Slots.{stage_number, stage_due, size_of, shapes_in, most_shapes, most_slots, slot_count, slot_of, with_one};
-ghost use Rattle.layout.specs.Steps.{Small, most_size};
+ghost use Rattle.layout.specs.Steps.{Small, most_size, reason_of};
 ghost use Rattle.layout.specs.Refusals.{impossible, reason_number, push_told, look_told};
 ghost use Rattle.refusal.specs.First.{answered};
 ghost use Rattle.refusal.specs.Refusal.{refusal};
 
 use crate::{
-    IDS_END, Layout, MOST, Place, ShapeKind, Stage, VARS_PER_ARC, VARS_PER_CIRCLE, VARS_PER_POINT,
+    IDS_END, Layout, MOST, ShapeKind, Stage, VARS_PER_ARC, VARS_PER_CIRCLE, VARS_PER_POINT,
 };
 use refusal::Refusal;
 
-// The numbers of the refusals.
-pub(crate) const CANNOT_BE: u8 = 20;
-
-pub(crate) const WRONG_STAGE: u8 = 21;
-
-const FULL: u8 = 22;
-
-const SHORT: u8 = 23;
-
-const FEW_IDS: u8 = 24;
-
-const NO_SHAPE: u8 = 25;
-
-// A refusal with a number, at place 0.
-pub(crate) fn refused(number: u8) -> Refusal
-    ensures { result ≡ refusal number 0 }
-{
-    Refusal { number, place: 0 }
+// Why a layout refuses, by the numbers of docs/FORMAT.md.
+#[derive(Clone, Copy, Debug, PartialEq, Eq)]
+pub(crate) enum Reason {
+    CannotBe = 20,
+    WrongStage = 21,
+    Full = 22,
+    Short = 23,
+    FewIds = 24,
+    NoShape = 25,
 }
 
-// The number of a stage.
-pub(crate) fn stage_number(s: Stage) -> u8
-    ensures { result ≡ stage_number s }
-{
-    match s {
-        Stage::Points => 0,
-        Stage::Circles => 1,
-        Stage::Arcs => 2,
-        Stage::Done => 3,
+impl From<Reason> for Refusal {
+    ghost from_gives = { λ reason r. r ≡ refusal (reason_number (reason_of reason)) 0 };
+
+    fn from(reason: Reason) -> Refusal {
+        Refusal {
+            number: reason as u8,
+            place: 0,
+        }
     }
 }
 
-// The number of the stage at which shapes of a kind are pushed.
-fn stage_due(k: ShapeKind) -> u8
-    ensures { result ≡ stage_due k }
-{
-    match k {
-        ShapeKind::Point => 0,
-        ShapeKind::Circle => 1,
-        ShapeKind::Arc => 2,
+impl ShapeKind {
+    // The stage at which shapes of this kind are pushed.
+    fn due(self) -> Stage
+        ensures { stage_number result ≡ stage_due self }
+    {
+        match self {
+            ShapeKind::Point => Stage::Points,
+            ShapeKind::Circle => Stage::Circles,
+            ShapeKind::Arc => Stage::Arcs,
+        }
+    }
+
+    // How many slots a shape of this kind has.
+    pub(crate) fn size(self) -> usize
+        ensures { (result ≡ size_of self) × (result ≤ most_size) }
+    {
+        match self {
+            ShapeKind::Point => VARS_PER_POINT,
+            ShapeKind::Circle => VARS_PER_CIRCLE,
+            ShapeKind::Arc => VARS_PER_ARC,
+        }
     }
 }
 
-// How many slots a shape of a kind has.
-fn size(k: ShapeKind) -> usize
-    ensures { (result ≡ size_of k) × (result ≤ most_size) }
-{
-    match k {
-        ShapeKind::Point => VARS_PER_POINT,
-        ShapeKind::Circle => VARS_PER_CIRCLE,
-        ShapeKind::Arc => VARS_PER_ARC,
+impl Layout {
+    // How many shapes of a kind there are.
+    fn count(self, k: ShapeKind) -> usize
+        ensures { result ≡ shapes_in k self }
+    {
+        match k {
+            ShapeKind::Point => self.points,
+            ShapeKind::Circle => self.circles,
+            ShapeKind::Arc => self.arcs,
+        }
     }
-}
 
-// How many shapes of a kind there are.
-fn count(l: Layout, k: ShapeKind) -> usize
-    ensures { result ≡ shapes_in k l }
-{
-    match k {
-        ShapeKind::Point => l.points,
-        ShapeKind::Circle => l.circles,
-        ShapeKind::Arc => l.arcs,
+    // The layout with one more of a kind.
+    pub(crate) fn with_one(self, k: ShapeKind) -> Layout
+        requires { Small self }
+        ensures { result ≡ with_one k self }
+    {
+        match k {
+            ShapeKind::Point => Layout {
+                points: self.points + 1,
+                ..self
+            },
+            ShapeKind::Circle => Layout {
+                circles: self.circles + 1,
+                ..self
+            },
+            ShapeKind::Arc => Layout {
+                arcs: self.arcs + 1,
+                ..self
+            },
+        }
     }
-}
 
-// The layout with one more of a kind.
-pub(crate) fn with_one(l: Layout, k: ShapeKind) -> Layout
-    requires { Small l }
-    ensures { result ≡ with_one k l }
-{
-    let stage = l.stage;
-    match k {
-        ShapeKind::Point => Layout {
-            points: l.points + 1,
-            circles: l.circles,
-            arcs: l.arcs,
-            stage,
-        },
-        ShapeKind::Circle => Layout {
-            points: l.points,
-            circles: l.circles + 1,
-            arcs: l.arcs,
-            stage,
-        },
-        ShapeKind::Arc => Layout {
-            points: l.points,
-            circles: l.circles,
-            arcs: l.arcs + 1,
-            stage,
-        },
+    // How many slots it has.
+    fn slots(self) -> usize
+        requires { Small self }
+        ensures { (result ≡ slot_count self) × (result ≤ most_slots) }
+    {
+        self.points * VARS_PER_POINT + self.circles * VARS_PER_CIRCLE + self.arcs * VARS_PER_ARC
     }
-}
 
-// How many slots a layout has.
-fn slots(l: Layout) -> usize
-    requires { Small l }
-    ensures { (result ≡ slot_count l) × (result ≤ most_slots) }
-{
-    l.points * VARS_PER_POINT + l.circles * VARS_PER_CIRCLE + l.arcs * VARS_PER_ARC
-}
+    // The first slot of shape i of a kind.
+    fn slot(self, k: ShapeKind, i: usize) -> usize
+        requires { Small self × (i ≤ most_shapes) }
+        ensures { result ≡ slot_of k self i }
+    {
+        match k {
+            ShapeKind::Point => i * VARS_PER_POINT,
+            ShapeKind::Circle => self.points * VARS_PER_POINT + i * VARS_PER_CIRCLE,
+            ShapeKind::Arc => self.points * VARS_PER_POINT
+                + self.circles * VARS_PER_CIRCLE
+                + i * VARS_PER_ARC,
+        }
+    }
 
-// The first slot of shape i of a kind.
-fn slot(l: Layout, k: ShapeKind, i: usize) -> usize
-    requires { Small l × (i ≤ most_shapes) }
-    ensures { result ≡ slot_of k l i }
-{
-    match k {
-        ShapeKind::Point => i * VARS_PER_POINT,
-        ShapeKind::Circle => l.points * VARS_PER_POINT + i * VARS_PER_CIRCLE,
-        ShapeKind::Arc => l.points * VARS_PER_POINT
-            + l.circles * VARS_PER_CIRCLE
-            + i * VARS_PER_ARC,
+    // Whether there cannot be such a layout: a count over the most, circles at the points stage, or arcs before the arcs stage.
+    pub(crate) fn is_impossible(self) -> bool
+        ensures { result ≡ impossible self }
+    {
+        (MOST < self.points)
+            | (MOST < self.circles)
+            | (MOST < self.arcs)
+            | ((0 < self.circles) & (self.stage < Stage::Circles))
+            | ((0 < self.arcs) & (self.stage < Stage::Arcs))
     }
-}
 
-// Whether there cannot be such a layout: a count over the most, circles at the points stage, or arcs before the arcs stage.
-pub(crate) fn is_impossible(l: Layout) -> bool
-    ensures { result ≡ impossible l }
-{
-    let stage = l.stage;
-    let number = stage_number(stage);
-    (MOST < l.points)
-        | (MOST < l.circles)
-        | (MOST < l.arcs)
-        | ((0 < l.circles) & (number < 1))
-        | ((0 < l.arcs) & (number < 2))
-}
+    // Where a shape of a kind goes, or why it does not, given the next id and the lengths of the two slices.
+    pub(crate) fn push_place(
+        self,
+        k: ShapeKind,
+        next: u32,
+        ids: usize,
+        values: usize,
+    ) -> Result<usize, Refusal>
+        ensures { result ≡ answered reason_number Err (push_told k self next ids values) (Ok (slot_count self)) }
+    {
+        if self.is_impossible() {
+            return Err(Reason::CannotBe.into());
+        }
+        if self.stage != k.due() {
+            return Err(Reason::WrongStage.into());
+        }
+        if MOST <= self.count(k) {
+            return Err(Reason::Full.into());
+        }
+        let at = self.slots();
+        let end = at + k.size();
+        if (ids < end) | (values < end) {
+            return Err(Reason::Short.into());
+        }
+        if ((IDS_END - next) as usize) < k.size() {
+            return Err(Reason::FewIds.into());
+        }
+        Ok(at)
+    }
 
-// Where a shape of a kind goes, or why it does not, given the next id and the lengths of the two slices.
-pub(crate) fn push_place(l: Layout, k: ShapeKind, next: u32, ids: usize, values: usize) -> Place
-    ensures { result ≡ answered reason_number Place.Not (push_told k l next ids values) (Place.At (slot_count l)) }
-{
-    if is_impossible(l) {
-        return Place::Not(refused(CANNOT_BE));
+    // Where shape i of a kind stands in a slice of a length, or why it does not.
+    pub(crate) fn look_place(self, k: ShapeKind, len: usize, i: usize) -> Result<usize, Refusal>
+        ensures { result ≡ answered reason_number Err (look_told k self len i) (Ok (slot_of k self i)) }
+    {
+        if self.is_impossible() {
+            return Err(Reason::CannotBe.into());
+        }
+        if len < self.slots() {
+            return Err(Reason::Short.into());
+        }
+        if self.count(k) <= i {
+            return Err(Reason::NoShape.into());
+        }
+        Ok(self.slot(k, i))
     }
-    let stage = l.stage;
-    if stage_number(stage) != stage_due(k) {
-        return Place::Not(refused(WRONG_STAGE));
-    }
-    if MOST <= count(l, k) {
-        return Place::Not(refused(FULL));
-    }
-    let at = slots(l);
-    let end = at + size(k);
-    if (ids < end) | (values < end) {
-        return Place::Not(refused(SHORT));
-    }
-    if ((IDS_END - next) as usize) < size(k) {
-        return Place::Not(refused(FEW_IDS));
-    }
-    Place::At(at)
-}
-
-// Where shape i of a kind stands in a slice of a length, or why it does not.
-pub(crate) fn look_place(l: Layout, k: ShapeKind, len: usize, i: usize) -> Place
-    ensures { result ≡ answered reason_number Place.Not (look_told k l len i) (Place.At (slot_of k l i)) }
-{
-    if is_impossible(l) {
-        return Place::Not(refused(CANNOT_BE));
-    }
-    if len < slots(l) {
-        return Place::Not(refused(SHORT));
-    }
-    if count(l, k) <= i {
-        return Place::Not(refused(NO_SHAPE));
-    }
-    Place::At(slot(l, k, i))
 }

@@ -1,16 +1,17 @@
-// A layout of points, circles and arcs over two lent slices, one of ids and one of values. Here are its types; `check` has the tests behind the refusals,
-// `push` fills slots, `look` finds a shape's ids and reads it out, and `lent` pushes with the counter of ids lent.
+// A layout of points, circles and arcs over two lent slices, one of ids and one of values, which stay two since C lends them so. Here are its
+// types; `check` has the tests behind the refusals, `shape` and `vars` what a shape is to its slots, `push` fills slots, `look` finds a shape's ids and reads
+// it out, and `lent` pushes with the counter of ids lent.
 #![tactic(auto)]
 
 ghost use Rattle.std.specs.Prelude.{◌≡◌};
-ghost use Rattle.layout.specs.Slots.{empty};
-
-use refusal::Refusal;
+ghost use Rattle.layout.specs.Slots.{empty, stage_number, stage_numbered};
 
 mod check;
 pub mod lent;
 mod look;
 mod push;
+mod shape;
+mod vars;
 
 // The most shapes of a kind.
 pub const MOST: usize = 4000;
@@ -29,7 +30,7 @@ pub const SLOTS: usize = MOST * (VARS_PER_POINT + VARS_PER_CIRCLE + VARS_PER_ARC
 pub const IDS_END: u32 = 4294967295;
 
 // What is pushed now: points, then circles, then arcs, then nothing.
-#[derive(Clone, Copy)]
+#[derive(Clone, Copy, Debug, PartialEq, Eq, PartialOrd, Ord)]
 pub enum Stage {
     Points,
     Circles,
@@ -47,7 +48,7 @@ pub struct Layout {
 }
 
 // The kinds of shapes.
-#[derive(Clone, Copy)]
+#[derive(Clone, Copy, Debug, PartialEq, Eq)]
 pub enum ShapeKind {
     Point,
     Circle,
@@ -74,7 +75,8 @@ pub struct Arc {
     pub center: Point,
 }
 
-// The shapes, in ids.
+// The shapes, in ids. They are no `Point<u32>` and so on, which would be no plainer: an arc's ids are named by its start and end, as in
+// geometry_variables.rs.
 #[derive(Clone, Copy)]
 pub struct PointVars {
     pub x: u32,
@@ -94,69 +96,39 @@ pub struct ArcVars {
     pub center: PointVars,
 }
 
-// A slot, or a refusal.
-#[derive(Clone, Copy)]
-pub enum Place {
-    At(usize),
-    Not(Refusal),
-}
-
 // What a push answers: the layout with the shape counted in, and the next id.
 #[derive(Clone, Copy)]
-pub enum Pushed {
-    Good(Layout, u32),
-    Refused(Refusal),
-}
-
-// What `done` answers.
-#[derive(Clone, Copy)]
-pub enum Stepped {
-    Good(Layout),
-    Refused(Refusal),
-}
-
-// What the lookups of ids answer.
-#[derive(Clone, Copy)]
-pub enum PointIds {
-    Found(PointVars),
-    Refused(Refusal),
-}
-
-#[derive(Clone, Copy)]
-pub enum CircleIds {
-    Found(CircleVars),
-    Refused(Refusal),
-}
-
-#[derive(Clone, Copy)]
-pub enum ArcIds {
-    Found(ArcVars),
-    Refused(Refusal),
-}
-
-// What the readout answers.
-#[derive(Clone, Copy)]
-pub enum PointRead {
-    Found(Point),
-    Refused(Refusal),
-}
-
-#[derive(Clone, Copy)]
-pub enum CircleRead {
-    Found(Circle),
-    Refused(Refusal),
-}
-
-#[derive(Clone, Copy)]
-pub enum ArcRead {
-    Found(Arc),
-    Refused(Refusal),
+pub struct Pushed {
+    pub layout: Layout,
+    pub next: u32,
 }
 
 // The counter of ids: the next one.
 #[derive(Clone, Copy)]
 pub struct Counter {
     pub next: u32,
+}
+
+impl Stage {
+    // Its number, from 0 on.
+    pub fn number(self) -> u8
+        ensures { result ≡ stage_number self }
+    {
+        self as u8
+    }
+
+    // The stage with a number, if there is one.
+    pub fn numbered(number: usize) -> Option<Stage>
+        ensures { result ≡ stage_numbered number }
+    {
+        match number {
+            0 => Some(Stage::Points),
+            1 => Some(Stage::Circles),
+            2 => Some(Stage::Arcs),
+            3 => Some(Stage::Done),
+            _ => None,
+        }
+    }
 }
 
 impl Layout {

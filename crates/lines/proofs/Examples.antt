@@ -1,15 +1,15 @@
 -- A line of each form that docs/FORMAT.md's page has not, and lines of a check and a lowering, by computation. Assumes nothing.
+use Rattle.std.specs.Prelude.{Err}
 use mathlib.Core.Path.{◌≡◌, refl}
 use mathlib.Core.List.{List, [], ◌∷◌}
 use Prim.Native.Nat.{ℕ}
 use lib.Ieee.{binary64, of_bits, to_bits}
+use Rattle.lowering.specs.Lower.{good_lowering}
+use Rattle.drawing.specs.Check.{good_check}
 use Rattle.refusal.specs.Refusal.{refusal}
 use Rattle.print.specs.Print.{last_digits, hex_of, width_up_to, decimal_of}
 use Rattle.record.specs.Entry.{entry_with}
-use Rattle.reader.specs.declared.Reading.TheVariants.{Refused}
 use Rattle.layout.specs.declared.Stage.TheVariants.{Done}
-use Rattle.drawing.specs.declared.Checked.TheVariants as C
-use Rattle.lowering.specs.declared.Lowered.TheVariants as L
 use Rattle.row.specs.Row.{meant, held_in, bytes_of, Row, encode_row, decode_row, row_of}
 use Rattle.rail.specs.Words.{joined, quoted, spaced}
 use Rattle.lines.specs.Lines.{first_line, line_of}
@@ -17,7 +17,7 @@ use Rattle.lines.specs.Drawn.{checked_line, lowered_line, slot_line, row_line}
 
 pub others :
     joined (
-    first_line (Refused (refusal 10 125))
+    first_line (Err (refusal 10 125))
     ∷ line_of (entry_with 10 2 ("a" ∷ "b" ∷ "c" ∷ "d" ∷ []) 0x3ff0000000000000 0)
     ∷ line_of (entry_with 18 2 ("c" ∷ []) 0 0)
     ∷ line_of (entry_with 8 0 ("a" ∷ "b" ∷ "c" ∷ "d" ∷ []) 0 0)
@@ -37,10 +37,10 @@ row kind third ids bits = decode_row (encode_row (record { kind = kind; third = 
 
 pub lowering :
     joined (
-    checked_line (C.Passed 2 1 1 11)
-    ∷ checked_line (C.Refused (refusal 32 1))
-    ∷ lowered_line (L.Good (record { points = 2; circles = 1; arcs = 1; stage = Done }) 13 11)
-    ∷ lowered_line (L.Refused (refusal 31 1))
+    checked_line (good_check 2 1 1 11)
+    ∷ checked_line (Err (refusal 32 1))
+    ∷ lowered_line (good_lowering (record { points = 2; circles = 1; arcs = 1; stage = Done }) 13 11)
+    ∷ lowered_line (Err (refusal 31 1))
     ∷ slot_line 6 (of_bits binary64 0x4000000000000000)
     ∷ row_line (row 4 1 (0 ∷ []) 0)
     ∷ row_line (row 18 2 (12 ∷ []) 0x3ff0000000000000)

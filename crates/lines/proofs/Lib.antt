@@ -2,4 +2,3 @@ pub mod Examples
 pub mod Only
 pub mod RowBack
 pub mod Spaced
-pub mod Telling

@@ -1,14 +1,13 @@
 -- The lines that tell of a drawing: whether it passes the check, and what lowering makes of it, a line for each slot and each row.
-use Rattle.std.specs.Prelude.{List, [], ◌∷◌, ◌++◌, map, ℕ, Float}
+use Rattle.std.specs.Prelude.{List, [], ◌∷◌, ◌++◌, map, ℕ, Float, Result, Err, Ok}
 use Rattle.std.specs.Float.{binary64}
 use Rattle.std.specs.Float.Ieee.{to_bits}
+use Rattle.refusal.specs.declared.Refusal.{Refusal}
 use Rattle.ground.specs.Words.{bytes}
 use Rattle.print.specs.Print.{decimal_of, hex_of}
 use Rattle.record.specs.Entry.{Entry}
 use Rattle.drawing.specs.declared.Checked.{Checked}
-use Rattle.drawing.specs.declared.Checked.TheVariants as C
 use Rattle.lowering.specs.declared.Lowered.{Lowered}
-use Rattle.lowering.specs.declared.Lowered.TheVariants as L
 use Rattle.row.specs.Row.{Row}
 use Rattle.rail.specs.Words.{line_with}
 use Rattle.lines.specs.Lines.{refused_line, line_of}
@@ -21,14 +20,16 @@ tally_line word points circles arcs name n =
     line_with word (bytes "points" ∷ decimal_of points ∷ bytes "circles" ∷ decimal_of circles ∷ bytes "arcs" ∷ decimal_of arcs ∷ name ∷ decimal_of n ∷ [])
 
 -- what the check told
-unfoldable pub checked_line : Checked → List ℕ
-checked_line (C.Passed points circles arcs rows) = tally_line (bytes "passed") points circles arcs (bytes "rows") rows
-checked_line (C.Refused r) = refused_line r
+unfoldable pub checked_line : Result Checked Refusal → List ℕ
+checked_line (Ok checked) = tally_line (bytes "passed") checked.points checked.circles checked.arcs (bytes "rows") checked.rows
+checked_line (Err r) = refused_line r
 
 -- what lowering told
-unfoldable pub lowered_line : Lowered → List ℕ
-lowered_line (L.Good layout next rows) = tally_line (bytes "lowered") layout.points layout.circles layout.arcs (bytes "next") next
-lowered_line (L.Refused r) = refused_line r
+unfoldable pub lowered_line : Result Lowered Refusal → List ℕ
+lowered_line (Ok lowered) =
+    let layout = lowered.layout in
+    tally_line (bytes "lowered") layout.points layout.circles layout.arcs (bytes "next") lowered.next
+lowered_line (Err r) = refused_line r
 
 -- ---- a slot's line
 

@@ -1,5 +1,5 @@
 -- The lines of a listing (docs/FORMAT.md, "A page read whole").
-use Rattle.std.specs.Prelude.{cond, List, [], ◌∷◌, ◌++◌, ℕ, eqb}
+use Rattle.std.specs.Prelude.{cond, List, [], ◌∷◌, ◌++◌, ℕ, eqb, Result, Err, Ok}
 use Rattle.ground.specs.Words.{bytes}
 use Rattle.refusal.specs.declared.Refusal.{Refusal}
 use Rattle.print.specs.Print.{decimal_of, hex_of}
@@ -7,7 +7,6 @@ use Rattle.kinds.specs.Kinds.{kind_at, numberless, angle, pair}
 use Rattle.record.specs.Entry.{Entry}
 use Rattle.rail.specs.Words.{line_with}
 use Rattle.reader.specs.declared.Reading.{Reading}
-use Rattle.reader.specs.declared.Reading.TheVariants.{Good, Refused}
 
 -- ---- the first line
 
@@ -19,9 +18,9 @@ abbrev pub refused_line : Refusal → List ℕ
 refused_line r = line_with (bytes "refused") (decimal_of r.number ∷ decimal_of r.place ∷ [])
 
 -- what a reading gave
-unfoldable pub first_line : Reading → List ℕ
-first_line (Good instructions guesses end) = good_line instructions guesses end
-first_line (Refused r) = refused_line r
+unfoldable pub first_line : Result Reading Refusal → List ℕ
+first_line (Ok reading) = good_line reading.instructions reading.guesses reading.end
+first_line (Err r) = refused_line r
 
 -- ---- a record's line
 

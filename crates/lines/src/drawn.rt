@@ -3,16 +3,95 @@ ghost use Rattle.std.specs.Prelude.{◌≡◌, [], ◌∷◌, ◌++◌, get_or};
 ghost use Rattle.ground.specs.Lists.{up_to};
 ghost use Rattle.print.specs.Print.{decimal_of};
 ghost use Rattle.rail.specs.Words.{spaced};
-ghost use Rattle.rail.specs.Rail.{Prints};
-ghost use Rattle.rail.specs.Steps.{Adds};
+ghost use Rattle.rail.specs.Steps.{Added};
 ghost use Rattle.row.specs.Row.{ids_in, meant};
 ghost use Rattle.lines.specs.Drawn.{tally_line, checked_line, lowered_line, slot_line, row_line};
 
 use super::words;
 use drawing::Checked;
 use lowering::Lowered;
-use rail::Place;
+use rail::{Piece, Rail};
+use refusal::Refusal;
 use row::{MOST_IDS, Row};
+
+// What the check told.
+#[derive(Clone, Copy)]
+pub(crate) struct CheckedLine(pub(crate) Result<Checked, Refusal>);
+
+impl Piece for CheckedLine {
+    ghost bytes = { λ l. checked_line l.0 };
+
+    fn add(&self, rail: &mut Rail) {
+        match self.0 {
+            Ok(found) => tally_line(
+                b"passed",
+                found.points,
+                found.circles,
+                found.arcs,
+                b"rows",
+                found.rows as u64,
+                rail,
+            ),
+            Err(refusal) => words::refused_line(refusal, rail),
+        }
+    }
+}
+
+// What lowering told.
+#[derive(Clone, Copy)]
+pub(crate) struct LoweredLine(pub(crate) Result<Lowered, Refusal>);
+
+impl Piece for LoweredLine {
+    ghost bytes = { λ l. lowered_line l.0 };
+
+    fn add(&self, rail: &mut Rail) {
+        match self.0 {
+            Ok(lowered) => tally_line(
+                b"lowered",
+                lowered.layout.points,
+                lowered.layout.circles,
+                lowered.layout.arcs,
+                b"next",
+                lowered.next as u64,
+                rail,
+            ),
+            Err(refusal) => words::refused_line(refusal, rail),
+        }
+    }
+}
+
+// A slot's line.
+#[derive(Clone, Copy)]
+pub(crate) struct SlotLine {
+    pub(crate) id: u32,
+    pub(crate) value: f64,
+}
+
+impl Piece for SlotLine {
+    ghost bytes = { λ l. slot_line l.id l.value };
+
+    fn add(&self, rail: &mut Rail) {
+        rail.add(b"slot");
+        rail.decimal_word(self.id as u64);
+        rail.hex_word(bits::to_bits(self.value));
+        rail.add(b"\n");
+    }
+}
+
+// A row's line.
+#[derive(Clone, Copy)]
+pub(crate) struct RowLine(pub(crate) Row);
+
+impl Piece for RowLine {
+    ghost bytes = { λ l. row_line (meant l.0) };
+
+    fn add(&self, rail: &mut Rail) {
+        let r = self.0;
+        rail.add(b"row ");
+        row_opening(r, rail);
+        words::from_third(r.kind, r.third, r.bits, 0, rail);
+    }
+}
 
 // The line of a word, the counts of shapes, and one number more with its name.
 fn tally_line(
@@ -22,114 +101,31 @@ fn tally_line(
     arcs: usize,
     last: &[u8],
     n: u64,
-    buf: &mut [u8],
-    write: bool,
-    p: Place,
-) -> Place
-    ensures { Adds write buf.old p (tally_line name.now points circles arcs last.now n) result buf.new }
+    rail: &mut Rail,
+)
+    ensures { Added rail.old (tally_line name.now points circles arcs last.now n) rail.new }
 {
-    let p = rail::add(buf, write, p, name);
-    let p = words::counted(b"points", points as u64, buf, write, p);
-    let p = words::counted(b"circles", circles as u64, buf, write, p);
-    let p = words::counted(b"arcs", arcs as u64, buf, write, p);
-    let p = words::counted(last, n, buf, write, p);
-    rail::add(buf, write, p, b"\n")
-}
-
-// What the check told.
-pub(crate) fn checked(c: Checked, buf: &mut [u8], write: bool, p: Place) -> Place
-    ensures { Adds write buf.old p (checked_line c) result buf.new }
-{
-    match c {
-        Checked::Passed {
-            points,
-            circles,
-            arcs,
-            rows,
-        } => tally_line(
-            b"passed",
-            points,
-            circles,
-            arcs,
-            b"rows",
-            rows as u64,
-            buf,
-            write,
-            p,
-        ),
-        Checked::Refused(refusal) => words::refused_line(refusal, buf, write, p),
-    }
-}
-
-// What lowering told.
-pub(crate) fn lowered(l: Lowered, buf: &mut [u8], write: bool, p: Place) -> Place
-    ensures { Adds write buf.old p (lowered_line l) result buf.new }
-{
-    match l {
-        Lowered::Good {
-            layout,
-            next,
-            rows: _,
-        } => tally_line(
-            b"lowered",
-            layout.points,
-            layout.circles,
-            layout.arcs,
-            b"next",
-            next as u64,
-            buf,
-            write,
-            p,
-        ),
-        Lowered::Refused(refusal) => words::refused_line(refusal, buf, write, p),
-    }
-}
-
-// A slot's line.
-pub(crate) fn slot(id: u32, value: f64, buf: &mut [u8], write: bool, p: Place) -> Place
-    ensures { Adds write buf.old p (slot_line id value) result buf.new }
-{
-    let p = rail::add(buf, write, p, b"slot");
-    let p = rail::decimal_word(buf, write, p, id as u64);
-    let p = rail::hex_word(buf, write, p, bits::to_bits(value));
-    rail::add(buf, write, p, b"\n")
+    rail.add(name);
+    words::counted(b"points", points as u64, rail);
+    words::counted(b"circles", circles as u64, rail);
+    words::counted(b"arcs", arcs as u64, rail);
+    words::counted(last, n, rail);
+    rail.add(b"\n");
 }
 
 // How many ids a row has, eight at most.
 fn ids_in(r: Row) -> usize
     ensures { result ≡ ids_in r }
 {
-    let count = r.count as usize;
-    if MOST_IDS < count { MOST_IDS } else { count }
-}
-
-// Adds a blank and an id.
-fn id_word(id: u32, buf: &mut [u8], write: bool, p: Place) -> Place
-    ensures { Prints write buf.old p (spaced (decimal_of id ∷ [])) result buf.new }
-{
-    rail::decimal_word(buf, write, p, id as u64)
+    (r.count as usize).min(MOST_IDS)
 }
 
 // Adds a row's kind and its ids.
-fn row_opening(r: Row, buf: &mut [u8], write: bool, p: Place) -> Place
-    ensures { Adds write buf.old p (decimal_of r.kind ++ spaced (up_to (ids_in r) (λ q. decimal_of (get_or r.ids q 0)))) result buf.new }
+fn row_opening(r: Row, rail: &mut Rail)
+    ensures { Added rail.old (decimal_of r.kind ++ spaced (up_to (ids_in r) (λ q. decimal_of (get_or r.ids q 0)))) rail.new }
 {
-    let ids = r.ids;
-    let mut n = rail::decimal(buf, write, p, r.kind as u64);
-    let count = ids_in(r);
-    let mut q = 0;
-    while q < count {
-        n = id_word(ids[q], buf, write, n);
-        q += 1;
+    rail.decimal(r.kind as u64);
+    for q in 0..ids_in(r) {
+        rail.decimal_word(r.ids[q] as u64);
     }
-    n
-}
-
-// A row's line.
-pub(crate) fn row(r: Row, buf: &mut [u8], write: bool, p: Place) -> Place
-    ensures { Adds write buf.old p (row_line (meant r)) result buf.new }
-{
-    let p = rail::add(buf, write, p, b"row ");
-    let p = row_opening(r, buf, write, p);
-    words::from_third(r.kind, r.third, r.bits, 0, buf, write, p)
 }

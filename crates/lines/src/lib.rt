@@ -1,5 +1,4 @@
-// The lines that programs print, written into a lent buffer where writing stands: those of a listing, of a check and of a lowering.
-// With `write` false a line is measured alone.
+// The lines that programs print, added to a rail, each whole or not at all: those of a listing, of a check and of a lowering.
 #![tactic(auto)]
 
 mod drawn;
@@ -10,84 +9,55 @@ ghost use Rattle.record.specs.Entry.{entry_of};
 ghost use Rattle.lines.specs.Lines.{first_line, line_of};
 ghost use Rattle.row.specs.Row.{decode_row, row_of};
 ghost use Rattle.lines.specs.Drawn.{checked_line, lowered_line, slot_line, row_line};
-ghost use Rattle.rail.specs.Rail.{Prints};
+ghost use Rattle.rail.specs.Rail.{Printed};
 
 use drawing::Checked;
+use drawn::{CheckedLine, LoweredLine, RowLine, SlotLine};
 use lowering::Lowered;
-use rail::Place;
+use rail::Rail;
 use reader::Reading;
+use refusal::Refusal;
+use words::{FirstLine, RecordLine};
 
-// Writes the first line of a listing, which tells what a reading gave; where it has no room, the buffer stays as it was.
-pub fn first_line(reading: Reading, buf: &mut [u8], write: bool, p: Place) -> Place
-    ensures { Prints write buf.old p (first_line reading) result buf.new }
+// Adds the first line of a listing, which tells what a reading gave.
+pub fn first_line(reading: Result<Reading, Refusal>, rail: &mut Rail)
+    ensures { Printed rail.old (first_line reading) rail.new }
 {
-    let m = words::reading_line(reading, buf, false, p);
-    let Place::At(_) = m else {
-        return m;
-    };
-    words::reading_line(reading, buf, write, p)
+    rail.whole(&FirstLine(reading));
 }
 
-// Writes the line of record i of a list over a text; where it has no room, the buffer stays as it was.
-pub fn record_line(
-    text: &[u8],
-    records: &[u8],
-    i: usize,
-    buf: &mut [u8],
-    write: bool,
-    p: Place,
-) -> Place
-    ensures { Prints write buf.old p (line_of (entry_of text.now (decode_at records.now i))) result buf.new }
+// Adds the line of record i of a list over a text.
+pub fn record_line(text: &[u8], records: &[u8], i: usize, rail: &mut Rail)
+    ensures { Printed rail.old (line_of (entry_of text.now (decode_at records.now i))) rail.new }
 {
-    let e = record::decode::decode_record(records, i);
-    let m = words::line(text, e, buf, false, p);
-    let Place::At(_) = m else {
-        return m;
-    };
-    words::line(text, e, buf, write, p)
+    let record = record::decode::decode_record(records, i);
+    rail.whole(&RecordLine { text, record });
 }
 
-// Writes the line of what the check told; where it has no room, the buffer stays as it was.
-pub fn checked_line(checked: Checked, buf: &mut [u8], write: bool, p: Place) -> Place
-    ensures { Prints write buf.old p (checked_line checked) result buf.new }
+// Adds the line of what the check told.
+pub fn checked_line(checked: Result<Checked, Refusal>, rail: &mut Rail)
+    ensures { Printed rail.old (checked_line checked) rail.new }
 {
-    let m = drawn::checked(checked, buf, false, p);
-    let Place::At(_) = m else {
-        return m;
-    };
-    drawn::checked(checked, buf, write, p)
+    rail.whole(&CheckedLine(checked));
 }
 
-// Writes the line of what lowering told; where it has no room, the buffer stays as it was.
-pub fn lowered_line(lowered: Lowered, buf: &mut [u8], write: bool, p: Place) -> Place
-    ensures { Prints write buf.old p (lowered_line lowered) result buf.new }
+// Adds the line of what lowering told.
+pub fn lowered_line(lowered: Result<Lowered, Refusal>, rail: &mut Rail)
+    ensures { Printed rail.old (lowered_line lowered) rail.new }
 {
-    let m = drawn::lowered(lowered, buf, false, p);
-    let Place::At(_) = m else {
-        return m;
-    };
-    drawn::lowered(lowered, buf, write, p)
+    rail.whole(&LoweredLine(lowered));
 }
 
-// Writes the line of a slot; where it has no room, the buffer stays as it was.
-pub fn slot_line(id: u32, value: f64, buf: &mut [u8], write: bool, p: Place) -> Place
-    ensures { Prints write buf.old p (slot_line id value) result buf.new }
+// Adds the line of a slot.
+pub fn slot_line(id: u32, value: f64, rail: &mut Rail)
+    ensures { Printed rail.old (slot_line id value) rail.new }
 {
-    let m = drawn::slot(id, value, buf, false, p);
-    let Place::At(_) = m else {
-        return m;
-    };
-    drawn::slot(id, value, buf, write, p)
+    rail.whole(&SlotLine { id, value });
 }
 
-// Writes the line of row k of a list, and of a row of zeros past the last; where it has no room, the buffer stays as it was.
-pub fn row_line(rows: &[u8], k: usize, buf: &mut [u8], write: bool, p: Place) -> Place
-    ensures { Prints write buf.old p (row_line (decode_row (row_of rows.now k))) result buf.new }
+// Adds the line of row k of a list, and of a row of zeros past the last.
+pub fn row_line(rows: &[u8], k: usize, rail: &mut Rail)
+    ensures { Printed rail.old (row_line (decode_row (row_of rows.now k))) rail.new }
 {
-    let row = row::decode_row(rows, k);
-    let m = drawn::row(row, buf, false, p);
-    let Place::At(_) = m else {
-        return m;
-    };
-    drawn::row(row, buf, write, p)
+    rail.whole(&RowLine(row::decode_row(rows, k)));
 }

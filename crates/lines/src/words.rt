@@ -1,195 +1,137 @@
 // The words of each line, added one after the other.
-ghost use Rattle.std.specs.Prelude.{◌≡◌, cond, [], ◌∷◌, ◌++◌, eqb, get_or};
+ghost use Rattle.std.specs.Prelude.{◌≡◌, [], ◌∷◌, ◌++◌};
 ghost use Rattle.ground.specs.Lists.{up_to};
 ghost use Rattle.print.specs.Print.{decimal_of};
 ghost use Rattle.kinds.specs.Kinds.{kind_at};
-ghost use Rattle.record.specs.Entry.{no_view, named, entry_of};
+ghost use Rattle.record.specs.Entry.{named, entry_of};
 ghost use Rattle.rail.specs.Words.{newline, spaced};
-ghost use Rattle.lines.specs.Lines.{first_word, third_word, third_of, numbers_of, good_line, refused_line, first_line, line_of};
-ghost use Rattle.rail.specs.Steps.{Adds};
-ghost use Rattle.lines.specs.Steps.{Lies};
+ghost use Rattle.lines.specs.Lines.{third_word, third_of, numbers_of, good_line, refused_line, first_line, line_of};
+ghost use Rattle.rail.specs.Steps.{Added};
 
-use kinds::KINDS;
-use rail::Place;
+use rail::{Piece, Rail};
 use reader::Reading;
-use record::{PLACES, Record, View};
+use record::{Record, View};
 use refusal::Refusal;
 
-// The first of the words that a third byte may stand for.
+// The first of the words that a third byte, which may be any, may stand for (`third_word`).
 const FIRST: u8 = 1;
 
-// A part of a text, by its start and its end.
+// The first line of a listing.
 #[derive(Clone, Copy)]
-struct Stretch {
-    start: usize,
-    end: usize,
+pub(crate) struct FirstLine(pub(crate) Result<Reading, Refusal>);
+
+impl Piece for FirstLine {
+    ghost bytes = { λ l. first_line l.0 };
+
+    fn add(&self, rail: &mut Rail) {
+        match self.0 {
+            Ok(read) => good_line(read.instructions, read.guesses, read.end, rail),
+            Err(refusal) => refused_line(refusal, rail),
+        }
+    }
+}
+
+// A record's line.
+#[derive(Clone, Copy)]
+pub(crate) struct RecordLine<'a> {
+    pub(crate) text: &'a [u8],
+    pub(crate) record: Record,
+}
+
+impl Piece for RecordLine<'_> {
+    ghost bytes = { λ l. line_of (entry_of l.text.now l.record) };
+
+    fn add(&self, rail: &mut Rail) {
+        let r = self.record;
+        opening(self.text, r, rail);
+        from_third(r.kind, r.third, r.x, r.y, rail);
+    }
 }
 
 // Adds a word and a number.
-pub(crate) fn counted(name: &[u8], n: u64, buf: &mut [u8], write: bool, p: Place) -> Place
-    ensures { Adds write buf.old p (spaced (name.now ∷ decimal_of n ∷ [])) result buf.new }
+pub(crate) fn counted(name: &[u8], n: u64, rail: &mut Rail)
+    ensures { Added rail.old (spaced (name.now ∷ decimal_of n ∷ [])) rail.new }
 {
-    let p = rail::word(buf, write, p, name);
-    rail::decimal_word(buf, write, p, n)
+    rail.word(name);
+    rail.decimal_word(n);
 }
 
 // The line of a good reading.
-fn good_line(
-    instructions: usize,
-    guesses: usize,
-    end: usize,
-    buf: &mut [u8],
-    write: bool,
-    p: Place,
-) -> Place
-    ensures { Adds write buf.old p (good_line instructions guesses end) result buf.new }
+fn good_line(instructions: usize, guesses: usize, end: usize, rail: &mut Rail)
+    ensures { Added rail.old (good_line instructions guesses end) rail.new }
 {
-    let p = rail::add(buf, write, p, b"instructions");
-    let p = rail::decimal_word(buf, write, p, instructions as u64);
-    let p = counted(b"guesses", guesses as u64, buf, write, p);
-    let p = counted(b"end", end as u64, buf, write, p);
-    rail::add(buf, write, p, b"\n")
+    rail.add(b"instructions");
+    rail.decimal_word(instructions as u64);
+    counted(b"guesses", guesses as u64, rail);
+    counted(b"end", end as u64, rail);
+    rail.add(b"\n");
 }
 
 // The line of a refusal.
-pub(crate) fn refused_line(refusal: Refusal, buf: &mut [u8], write: bool, p: Place) -> Place
-    ensures { Adds write buf.old p (refused_line refusal) result buf.new }
+pub(crate) fn refused_line(refusal: Refusal, rail: &mut Rail)
+    ensures { Added rail.old (refused_line refusal) rail.new }
 {
-    let p = rail::add(buf, write, p, b"refused");
-    let p = rail::decimal_word(buf, write, p, refusal.number as u64);
-    let p = rail::decimal_word(buf, write, p, refusal.place as u64);
-    rail::add(buf, write, p, b"\n")
+    rail.add(b"refused");
+    rail.decimal_word(refusal.number as u64);
+    rail.decimal_word(refusal.place as u64);
+    rail.add(b"\n");
 }
 
-// The first line of a listing.
-pub(crate) fn reading_line(reading: Reading, buf: &mut [u8], write: bool, p: Place) -> Place
-    ensures { Adds write buf.old p (first_line reading) result buf.new }
+// Adds a blank and label q of a record, as far as it lies in the text; an empty one past the last.
+fn label_word(text: &[u8], r: Record, q: usize, rail: &mut Rail)
+    ensures { Added rail.old (spaced (named text.now r q ∷ [])) rail.new }
 {
-    match reading {
-        Reading::Good {
-            instructions,
-            guesses,
-            end,
-        } => good_line(instructions, guesses, end, buf, write, p),
-        Reading::Refused(refusal) => refused_line(refusal, buf, write, p),
-    }
-}
-
-// What lies inside a text of a size, of the part that starts at a place and has a length.
-fn inside(size: usize, start: usize, len: usize) -> Stretch
-    ensures { Lies size start len result }
-{
-    if size <= start {
-        return Stretch {
-            start: size,
-            end: size,
-        };
-    }
-    if size - start <= len {
-        return Stretch { start, end: size };
-    }
-    Stretch {
-        start,
-        end: start + len,
-    }
-}
-
-// Label place q of a record's labels, and an empty part past the last.
-fn view_of(labels: [View; 4], q: usize) -> View
-    ensures { result ≡ get_or labels q no_view }
-{
-    if PLACES <= q {
-        return View { start: 0, len: 0 };
-    }
-    labels[q]
-}
-
-// Adds a blank and label q of a record.
-fn label_word(text: &[u8], r: Record, q: usize, buf: &mut [u8], write: bool, p: Place) -> Place
-    ensures { Adds write buf.old p (spaced (named text.now r q ∷ [])) result buf.new }
-{
-    let labels = r.labels;
-    let v = view_of(labels, q);
-    let l = inside(text.len(), v.start, v.len);
-    let start = l.start;
-    let end = l.end;
-    rail::word(buf, write, p, &text[start..end])
+    let v = r
+        .labels
+        .get(q)
+        .copied()
+        .unwrap_or(View { start: 0, len: 0 });
+    let rest = &text[v.start.min(text.len())..];
+    rail.word(&rest[..v.len.min(rest.len())]);
 }
 
 // Adds a record's kind and its labels.
-fn opening(text: &[u8], r: Record, buf: &mut [u8], write: bool, p: Place) -> Place
-    ensures { Adds write buf.old p (decimal_of r.kind ++ spaced (up_to r.count (named text.now r))) result buf.new }
+fn opening(text: &[u8], r: Record, rail: &mut Rail)
+    ensures { Added rail.old (decimal_of r.kind ++ spaced (up_to r.count (named text.now r))) rail.new }
 {
-    let mut n = rail::decimal(buf, write, p, r.kind as u64);
-    let count = r.count as usize;
-    let mut q = 0;
-    while q < count {
-        n = label_word(text, r, q, buf, write, n);
-        q += 1;
+    rail.decimal(r.kind as u64);
+    for q in 0..r.count as usize {
+        label_word(text, r, q, rail);
     }
-    n
-}
-
-// Adds one of two words by a record's third byte.
-fn either(third: u8, first: &[u8], second: &[u8], buf: &mut [u8], write: bool, p: Place) -> Place
-    ensures { Adds write buf.old p (spaced (cond (eqb third first_word) first.now second.now ∷ [])) result buf.new }
-{
-    if third == FIRST {
-        return rail::word(buf, write, p, first);
-    }
-    rail::word(buf, write, p, second)
 }
 
 // Adds the word of a record's third byte.
-fn third_word(number: u8, third: u8, buf: &mut [u8], write: bool, p: Place) -> Place
-    ensures { Adds write buf.old p (spaced (third_word number third ∷ [])) result buf.new }
+fn third_word(number: u8, third: u8, rail: &mut Rail)
+    ensures { Added rail.old (spaced (third_word number third ∷ [])) rail.new }
 {
     if number == kinds::ANGLE {
-        return either(third, b"deg", b"rad", buf, write, p);
+        rail.word(if third == FIRST { b"deg" } else { b"rad" });
+    } else {
+        rail.word(if third == FIRST { b"x" } else { b"y" });
     }
-    either(third, b"x", b"y", buf, write, p)
 }
 
 // Adds the line from the numbers on.
-fn from_numbers(number: u8, x: u64, y: u64, buf: &mut [u8], write: bool, p: Place) -> Place
-    ensures { Adds write buf.old p (spaced (numbers_of number x y) ++ newline) result buf.new }
+fn from_numbers(number: u8, x: u64, y: u64, rail: &mut Rail)
+    ensures { Added rail.old (spaced (numbers_of number x y) ++ newline) rail.new }
 {
     if number == kinds::NONE {
-        return rail::add(buf, write, p, b"\n");
+        return rail.add(b"\n");
     }
-    let p = rail::hex_word(buf, write, p, x);
+    rail.hex_word(x);
     if number == kinds::PAIR {
-        let p = rail::hex_word(buf, write, p, y);
-        return rail::add(buf, write, p, b"\n");
+        rail.hex_word(y);
     }
-    rail::add(buf, write, p, b"\n")
+    rail.add(b"\n");
 }
 
 // Adds the line from the third byte's word on.
-pub(crate) fn from_third(
-    kind: u8,
-    third: u8,
-    x: u64,
-    y: u64,
-    buf: &mut [u8],
-    write: bool,
-    p: Place,
-) -> Place
-    ensures { Adds write buf.old p (spaced (third_of kind third ++ numbers_of (kind_at kind).number x y) ++ newline) result buf.new }
+pub(crate) fn from_third(kind: u8, third: u8, x: u64, y: u64, rail: &mut Rail)
+    ensures { Added rail.old (spaced (third_of kind third ++ numbers_of (kind_at kind).number x y) ++ newline) rail.new }
 {
-    let kinds = KINDS;
-    let sort = kinds::look(&kinds, kind, kinds::SORT);
-    if kinds::look(&kinds, kind, kinds::THIRDS) == kinds::ZERO {
-        return from_numbers(sort, x, y, buf, write, p);
+    let sort = kinds::cell_of(kind, kinds::SORT);
+    if kinds::cell_of(kind, kinds::THIRDS) != kinds::ZERO {
+        third_word(sort, third, rail);
     }
-    let p = third_word(sort, third, buf, write, p);
-    from_numbers(sort, x, y, buf, write, p)
-}
-
-// Adds a record's line.
-pub(crate) fn line(text: &[u8], r: Record, buf: &mut [u8], write: bool, p: Place) -> Place
-    ensures { Adds write buf.old p (line_of (entry_of text.now r)) result buf.new }
-{
-    let p = opening(text, r, buf, write, p);
-    from_third(r.kind, r.third, r.x, r.y, buf, write, p)
+    from_numbers(sort, x, y, rail);
 }

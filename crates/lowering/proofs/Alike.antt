@@ -1,10 +1,12 @@
 -- Two drawings that the check passes and that have the same lines are lowered alike: no call tells them apart, with enough room or too little, since
 -- all that is answered and written is worked out from the lines. Assumes nothing.
+use Rattle.std.specs.Prelude.{Result}
 use mathlib.Core.Path.{◌≡◌, refl, sym, ap, ◌∙◌}
 use mathlib.Core.List.{List}
 use Prim.Native.Nat.{ℕ}
 use lib.ListN.{length}
 use lib.Ieee.{Float}
+use Rattle.refusal.specs.declared.Refusal.{Refusal}
 use Rattle.refusal.specs.First.{passed, once, answered}
 use Rattle.row.specs.Row.{Row}
 use Rattle.record.specs.Entry.{Entry}
@@ -59,7 +61,7 @@ module _ {es es' : List Entry} (k : Alike es es') where
       let lack : lack_of es room ≡ lack_of es' room = λ j. once lack_order (λ f. lacking_same room f j) in
       rw (k.passes, k.passes', lack, k.layout, k.slot_count, k.rule_count) refl
 
-  pub call_same : (next : ℕ) (ids : List ℕ) (values : List Float) (rows : List ℕ) (r : Lowered) (ids' : List ℕ) (values' : List Float) (rows' : List ℕ)
+  pub call_same : (next : ℕ) (ids : List ℕ) (values : List Float) (rows : List ℕ) (r : Result Lowered Refusal) (ids' : List ℕ) (values' : List Float) (rows' : List ℕ)
       → Lowers es next ids values rows r ids' values' rows' → Lowers es' next ids values rows r ids' values' rows'
   call_same next ids values rows r ids' values' rows' call =
       let told = answer_same (room_in next ids values rows) in

@@ -1,10 +1,12 @@
 -- A plate with a vent hole and a round corner, by the names of its shapes, and what it is lowered to: one claim, which the definitions compute.
 -- Assumes nothing.
+use Rattle.std.specs.Prelude.{Result, Err}
 use mathlib.Core.Path.{◌≡◌, refl}
 use mathlib.Core.List.{List, [], ◌∷◌, ◌++◌, map}
 use Prim.Native.Nat.{ℕ}
 use lib.ListN.{replicate}
 use Prim.Native.String.{String, ◌++◌ as ◌++ˢ◌}
+use Rattle.refusal.specs.declared.Refusal.{Refusal}
 use Rattle.refusal.specs.Refusal.{refusal}
 use Rattle.refusal.specs.First.{lowest, first, once, answered}
 use Rattle.text.specs.Text.{run_to, word_at, byte_on, label_at, label_on, suffixed_on}
@@ -16,11 +18,10 @@ use Rattle.names.specs.Labels.{labelled, lowest_or}
 use Rattle.drawing.specs.Check as check
 use check.{twice, named_at, some_named, guess_at, guessed, wrong_place, wrong_label_test, no_such_part_test, without_guess_test, check_of, count_below}
 use Rattle.lowering.specs.declared.Lowered.{Lowered}
-use Rattle.lowering.specs.declared.Lowered.TheVariants.{Good, Refused}
 use Rattle.lowering.specs.Slots.{Slot, slots, guess_of, number_for}
 use Rattle.row.specs.Row.{Row, bytes_of, encode_row}
 use Rattle.lowering.specs.Rows.{named_ids, rows_of}
-use Rattle.lowering.specs.Lower.{Room, lack_of, lower_of}
+use Rattle.lowering.specs.Lower.{Room, lack_of, lower_of, good_lowering}
 
 -- ---- entries
 
@@ -88,7 +89,7 @@ numbers_due ends = 0 ∷ 1 ∷ 2 ∷ 3 ∷ 4 ∷ (ends ++ 9 ∷ 10 ∷ [])
 abbrev room : ℕ → ℕ → ℕ → ℕ → Room
 room next ids values row_bytes = record { next = next; ids = ids; values = values; row_bytes = row_bytes }
 
-abbrev answers : List Lowered
+abbrev answers : List (Result Lowered Refusal)
 answers =
     lower_of plate (room 100 11 11 264)
     -- the last ids that there are
@@ -102,8 +103,8 @@ answers =
     ∷ lower_of (declared 1 "v" ∷ plate) (room 4294967285 0 0 0)
     ∷ []
 
-abbrev good : ℕ → Lowered
-good next = Good (record { points = 1; circles = 1; arcs = 1; stage = Done }) next 6
+abbrev good : ℕ → Result Lowered Refusal
+good next = good_lowering (record { points = 1; circles = 1; arcs = 1; stage = Done }) next 6
 
 -- the bytes of a row: its mark, the count of ids, the third byte, eight ids, the bits
 abbrev written : List ℕ
@@ -112,6 +113,6 @@ written = 82 ∷ 4 ∷ 1 ∷ 2 ∷ 110 ∷ 0 ∷ 0 ∷ 0 ∷ (replicate 28 0 ++ 
 pub examples : (rows_of plate 100 ≡ rows_due 110)
     × (encode_row (row 4 2 (110 ∷ []) 92) ≡ written)
     × (numbers plate ≡ numbers_due (5 ∷ 6 ∷ 7 ∷ 8 ∷ []))
-    × (answers ≡ good 111 ∷ good 4294967295 ∷ Refused (refusal 36 0) ∷ Refused (refusal 37 0) ∷ Refused (refusal 37 0) ∷ Refused (refusal 38 0) ∷ Refused (refusal 31 4) ∷ [])
+    × (answers ≡ good 111 ∷ good 4294967295 ∷ Err (refusal 36 0) ∷ Err (refusal 37 0) ∷ Err (refusal 37 0) ∷ Err (refusal 38 0) ∷ Err (refusal 31 4) ∷ [])
 unfolding slots named_ids rows_of encode_row bytes_of guess_of lack_of lower_of lowest_or lowest first once answered labelled twice named_at some_named guess_at guessed wrong_place wrong_label_test no_such_part_test without_guess_test check_of count_below malformed_test sound_test spelled_test run_to word_at byte_on label_at label_on suffixed_on
 examples = (refl, refl, refl, refl)

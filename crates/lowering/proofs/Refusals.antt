@@ -1,5 +1,6 @@
 -- Lowering is refused with a number at a place exactly if that is the first of 30 to 38 that holds, at its lowest place: the check and what is lacking,
 -- one behind the other, are one search through the one order. Assumes nothing.
+use Rattle.std.specs.Prelude.{Result, Err}
 use mathlib.Core.Path.{◌≡◌, refl, ap, ◌∙◌, sym}
 use mathlib.Core.Logic.{◌↔◌}
 use mathlib.Core.Bool.{Bool, true, false, ◌&&◌}
@@ -22,10 +23,9 @@ use Rattle.drawing.specs.Faults.{Fault, order, number_of}
 use Rattle.drawing.specs.Check.{test, check_of}
 use Rattle.drawing.proofs.Agree.{agree}
 use Rattle.lowering.specs.declared.Lowered.{Lowered}
-use Rattle.lowering.specs.declared.Lowered.TheVariants as L
 use Rattle.lowering.specs.Slots.{slots, layout_of}
 use Rattle.lowering.specs.Rows.{rules_of}
-use Rattle.lowering.specs.Lower.{Room, Lack, few_ids, short_slices, short_rows, lack_order, lack_number, lacking, lack_of, lower_of}
+use Rattle.lowering.specs.Lower.{Room, Lack, few_ids, short_slices, short_rows, lack_order, lack_number, lacking, lack_of, lower_of, good_lowering}
 use Rattle.lowering.specs.Refusals.{Cause, fault, lack, causes, cause_number, Causes}
 use Rattle.lowering.proofs.answer.Lacking.{says_lacking}
 
@@ -36,8 +36,8 @@ abbrev behind : {F : Type 0} → (F → Cause) → Answer F → Answer Cause →
 behind g (refused f i) rest = refused (g f) i
 behind g passed rest = rest
 
-in_turn : (a : Answer Fault) (b : Answer Lack) (last : Lowered)
-    → answered number_of L.Refused a (answered lack_number L.Refused b last) ≡ answered cause_number L.Refused (behind fault a (behind lack b passed)) last
+in_turn : (a : Answer Fault) (b : Answer Lack) (last : Result Lowered Refusal)
+    → answered number_of Err a (answered lack_number Err b last) ≡ answered cause_number Err (behind fault a (behind lack b passed)) last
 unfolding answered
 in_turn (refused f i) b last = refl
 in_turn passed (refused l i) last = refl
@@ -65,8 +65,8 @@ at_zero (suc n) false = rw (at_zero n false, ne_eqb (suc n) 0 (λ e. omega arith
 
 module _ (es : List Entry) (room : Room) where
   -- what a drawing is lowered to where nothing is refused
-  abbrev pub good : Lowered
-  good = L.Good (layout_of es) (room.next + length (slots es)) (length (rules_of es))
+  abbrev pub good : Result Lowered Refusal
+  good = good_lowering (layout_of es) (room.next + length (slots es)) (length (rules_of es))
 
   abbrev tests : Cause → ℕ → Bool
   tests (fault f) i = test es f i
@@ -76,7 +76,7 @@ module _ (es : List Entry) (room : Room) where
   says (fault f) i = agree es f i
   says (lack l) i = says_and (says_eq i 0) (says_lacking es room l i)
 
-  lower_is : lower_of es room ≡ answered cause_number L.Refused (first causes tests (places es)) good
+  lower_is : lower_of es room ≡ answered cause_number Err (first causes tests (places es)) good
   unfolding lower_of check_of lack_of once first
   lower_is =
       in_turn (check_of es) (lack_of es room) good
@@ -86,7 +86,7 @@ module _ (es : List Entry) (room : Room) where
   -- ---- in words
 
   -- the cause behind a number
-  because : (a : Answer Cause) (number place : ℕ) → answered cause_number L.Refused a good ≡ L.Refused (refusal number place) → (c : Cause) × (cause_number c ≡ number) × (a ≡ refused c place)
+  because : (a : Answer Cause) (number place : ℕ) → answered cause_number Err a good ≡ Err (refusal number place) → (c : Cause) × (cause_number c ≡ number) × (a ≡ refused c place)
   unfolding answered
   because (refused c i) number place e =
       let same : refusal (cause_number c) i ≡ refusal number place = cc in
@@ -94,7 +94,7 @@ module _ (es : List Entry) (room : Room) where
   because passed number place e = let z : ◌≡◌ {A = ℕ} 0 1 = cc in absurd (omega arith)
 
   -- a number is told at a place exactly if it is that of the first cause of the order that holds anywhere, and the place is the lowest where it holds
-  pub lower_refused_iff : (number place : ℕ) → (lower_of es room ≡ L.Refused (refusal number place)) ↔ ((c : Cause) × (cause_number c ≡ number) × Told (Causes es room) (places es) causes c place)
+  pub lower_refused_iff : (number place : ℕ) → (lower_of es room ≡ Err (refusal number place)) ↔ ((c : Cause) × (cause_number c ≡ number) × Told (Causes es room) (places es) causes c place)
   unfolding answered
   lower_refused_iff number place = (
     λ e. let (c, n, w) = because _ number place (sym lower_is ∙ e) in (c, n, (refused_iff tests (Causes es room) says (places es) causes c place).0 w),
@@ -106,6 +106,6 @@ module _ (es : List Entry) (room : Room) where
   unfolding answered
   lower_good_iff = (
     λ e. (passed_iff tests (Causes es room) says (places es) causes).0
-        (answered_good cause_number L.Refused (first causes tests (places es)) good good (λ r q. let z : ◌≡◌ {A = ℕ} 0 1 = cc in omega arith) (sym lower_is ∙ e)),
+        (answered_good cause_number Err (first causes tests (places es)) good good (λ r q. let z : ◌≡◌ {A = ℕ} 0 1 = cc in omega arith) (sym lower_is ∙ e)),
     λ n. lower_is ∙ rw ((passed_iff tests (Causes es room) says (places es) causes).1 n) refl,
   )

@@ -1,5 +1,4 @@
 -- The ids of what a label names.
 pub mod Tested
 pub mod Named
-pub mod Spans
 pub mod Firsts

@@ -1,16 +1,11 @@
 -- The user's third demand, phrase by phrase: what a drawing that the check passes is lowered to, with enough ids left and enough room lent.
-use Rattle.std.specs.Prelude.{◌≡◌, ℕ, ◌+◌, ◌*◌, ◌≤◌, ◌<◌, length, get_or, set, Float}
+use Rattle.std.specs.Prelude.{◌≡◌, ℕ, ◌+◌, ◌*◌, ◌≤◌, ◌<◌, length, get_or, set, Float, Result, Ok}
 use mathlib.Core.List.{List, [], ◌++◌, Memᴰ}
 use Rattle.std.specs.Float.{nan, binary64}
 use Rattle.std.specs.Float.Ieee.{of_bits}
+use Rattle.refusal.specs.declared.Refusal.{Refusal}
 use Rattle.refusal.specs.First.{SomeBelow, EachBelow}
 use Rattle.layout.specs.declared.Stage.TheVariants.{Done}
-use Rattle.layout.specs.declared.PointIds.TheVariants as PI
-use Rattle.layout.specs.declared.CircleIds.TheVariants as CI
-use Rattle.layout.specs.declared.ArcIds.TheVariants as AI
-use Rattle.layout.specs.declared.PointRead.TheVariants as PR
-use Rattle.layout.specs.declared.CircleRead.TheVariants as CR
-use Rattle.layout.specs.declared.ArcRead.TheVariants as AR
 use Rattle.layout.specs.Slots as layout
 use Rattle.layout.specs.Slots.{ids_end}
 use Rattle.layout.specs.Look.{point_ids, circle_ids, arc_slot_ids, point_read, circle_read, arc_read}
@@ -19,17 +14,15 @@ use Rattle.kinds.specs.Kinds.{Rule, Guess, first_rule, last_rule}
 use Rattle.record.specs.Entry.{Label, Entry, entry_at, label_no}
 use Rattle.record.specs.Formed.{entries}
 use Rattle.names.specs.Labels.{kind_no, name_no}
-use Rattle.drawing.specs.declared.Checked.TheVariants as checked
 use Rattle.drawing.specs.Needs.{Shape, point, circle, arc, declaring}
-use Rattle.drawing.specs.Check.{count_below, checked_of}
+use Rattle.drawing.specs.Check.{count_below, checked_of, good_check}
 use Rattle.lowering.specs.declared.Lowered.{Lowered}
-use Rattle.lowering.specs.declared.Lowered.TheVariants as L
 use Rattle.ground.specs.Lists.{flat}
 use Rattle.lowering.specs.Slots.{Slot, slot, slots, slots_of_shape, size, before, how_many, kind_for, layout_of, first_slot, number_for}
 use Rattle.lowering.specs.Fields.{field_of, Ids, of_point, of_circle, of_arc, ids_kind, id_of}
 use Rattle.row.specs.Row.{Row, row_bytes, most_ids, encode_row, id_at, row_no}
 use Rattle.lowering.specs.Rows.{naming_of, Names, named_ids, rules_of}
-use Rattle.lowering.specs.Lower.{Room, room_in, Lowers}
+use Rattle.lowering.specs.Lower.{Room, room_in, Lowers, good_lowering}
 
 -- enough ids left and enough room lent, for so many slots and rows
 pub record EnoughFor (slot_count row_count : ℕ) (room : Room) : Type 0 where
@@ -76,9 +69,9 @@ pub record OneComponent (es : List Entry) (j : ℕ) : Type 0 where
 
 -- the lookup hands back these ids for the shape that record i declares, by its number among those of its kind
 abbrev pub HandsIds : List Entry → List ℕ → ℕ → Ids → Type 0
-HandsIds es ids i (of_point v) = point_ids (layout_of es) ids (before point es i) ≡ PI.Found v
-HandsIds es ids i (of_circle v) = circle_ids (layout_of es) ids (before circle es i) ≡ CI.Found v
-HandsIds es ids i (of_arc v) = arc_slot_ids (layout_of es) ids (before arc es i) ≡ AI.Found v
+HandsIds es ids i (of_point v) = point_ids (layout_of es) ids (before point es i) ≡ Ok v
+HandsIds es ids i (of_circle v) = circle_ids (layout_of es) ids (before circle es i) ≡ Ok v
+HandsIds es ids i (of_arc v) = arc_slot_ids (layout_of es) ids (before arc es i) ≡ Ok v
 
 -- n is looked up as the id of the component t of the shape s that record i declares: it stands in the field that t is named for
 pub record LookedUp (es : List Entry) (ids : List ℕ) (i : ℕ) (s : Shape) (t : Slot) (n : ℕ) : Type 0 where
@@ -134,9 +127,9 @@ rules_before es n = count_below (kind_no es) first_rule last_rule n
 
 -- the readout of the values vs hands back this for the shape that record i declares, by its number among those of its kind
 abbrev pub HandsBack : List Entry → List Float → ℕ → layout.Figure → Type 0
-HandsBack es vs i (layout.point p) = point_read (layout_of es) vs (before point es i) ≡ PR.Found p
-HandsBack es vs i (layout.circle c) = circle_read (layout_of es) vs (before circle es i) ≡ CR.Found c
-HandsBack es vs i (layout.arc a) = arc_read (layout_of es) vs (before arc es i) ≡ AR.Found a
+HandsBack es vs i (layout.point p) = point_read (layout_of es) vs (before point es i) ≡ Ok p
+HandsBack es vs i (layout.circle c) = circle_read (layout_of es) vs (before circle es i) ≡ Ok c
+HandsBack es vs i (layout.arc a) = arc_read (layout_of es) vs (before arc es i) ≡ Ok a
 
 -- v is read out as the component t of the shape s that record i declares: it stands in the field that t is named for
 pub record ReadAs (es : List Entry) (vs : List Float) (i : ℕ) (s : Shape) (t : Slot) (v : Float) : Type 0 where
@@ -179,17 +172,17 @@ pub record CannotGoWrong (es : List Entry) (P C A R next : ℕ) (ids : List ℕ)
   pub read_out : (vs : List Float) → length (slots es) ≤ length vs → (v : Float) → EachBelow (length (slots es)) (λ j. ReadOut es vs j v)
 
 -- a call of lowering with the next id that was answered r, with the ids, the values and the rows after it
-pub record LowersWell (es : List Entry) (P C A R next : ℕ) (r : Lowered) (ids' : List ℕ) (values' : List Float) (rows' : List ℕ) : Type 0 where
+pub record LowersWell (es : List Entry) (P C A R next : ℕ) (r : Result Lowered Refusal) (ids' : List ℕ) (values' : List Float) (rows' : List ℕ) : Type 0 where
   -- it lowers without refusal;
-  pub without_refusal : r ≡ L.Good (record { points = P; circles = C; arcs = A; stage = Done }) (next + (2 * P + 3 * C + 6 * A)) R
+  pub without_refusal : r ≡ good_lowering (record { points = P; circles = C; arcs = A; stage = Done }) (next + (2 * P + 3 * C + 6 * A)) R
   pub cannot_go_wrong : CannotGoWrong es P C A R next ids' values' rows'
 
 -- a drawing that the check passes, with P points, C circles and A arcs, enough ids left and enough room lent, is lowered well
 abbrev pub PassedLowersWell : Type 0
 PassedLowersWell =
     (text records : List ℕ) (P C A R next : ℕ) (ids : List ℕ) (values : List Float) (rows : List ℕ)
-    → checked_of (entries text records) ≡ checked.Passed P C A R
+    → checked_of (entries text records) ≡ good_check P C A R
     → EnoughFor (2 * P + 3 * C + 6 * A) R (room_in next ids values rows)
-    → (r : Lowered) (ids' : List ℕ) (values' : List Float) (rows' : List ℕ)
+    → (r : Result Lowered Refusal) (ids' : List ℕ) (values' : List Float) (rows' : List ℕ)
     → Lowers (entries text records) next ids values rows r ids' values' rows'
     → LowersWell (entries text records) P C A R next r ids' values' rows'

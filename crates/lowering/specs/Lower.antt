@@ -1,13 +1,14 @@
 -- What lowering answers, and what both slices and the row buffer hold after it: the check's refusal; then 36, 37, 38; else slots and rows.
-use Rattle.std.specs.Prelude.{◌≡◌, ◌⊎◌, Bool, ◌||◌, List, [], ◌∷◌, ◌++◌, ℕ, ◌+◌, ◌*◌, ◌<◌, ltb, length, drop, Float}
+use Rattle.std.specs.Prelude.{◌≡◌, ◌⊎◌, Bool, ◌||◌, List, [], ◌∷◌, ◌++◌, ℕ, ◌+◌, ◌*◌, ◌<◌, ltb, length, drop, Float, Result, Err, Ok}
+use Rattle.refusal.specs.declared.Refusal.{Refusal}
 use Rattle.refusal.specs.First.{Answer, once, answered}
+use Rattle.layout.specs.declared.Layout.{Layout}
 use Rattle.layout.specs.Slots.{ids_end}
 use Rattle.layout.specs.Push.{onward}
 use Rattle.record.specs.Entry.{Entry}
 use Rattle.drawing.specs.Faults.{number_of}
 use Rattle.drawing.specs.Check.{check_of}
 use Rattle.lowering.specs.declared.Lowered.{Lowered}
-use Rattle.lowering.specs.declared.Lowered.TheVariants as L
 use Rattle.lowering.specs.Slots.{slots, layout_of, values_of}
 use Rattle.row.specs.Row.{row_bytes, encode_rows}
 use Rattle.lowering.specs.Rows.{rules_of, rows_of}
@@ -56,16 +57,20 @@ lack_of es room = once lack_order (lacking es room)
 
 -- ---- the answer
 
+-- a drawing is lowered to a layout, the next id and so many rows
+abbrev pub good_lowering : Layout → ℕ → ℕ → Result Lowered Refusal
+good_lowering layout next rows = Ok (record { layout = layout; next = next; rows = rows })
+
 -- what is wrong with the drawing, then what is lacking, or else the layout, the next id, and how many rows there are
-unfoldable pub lower_of : List Entry → Room → Lowered
-lower_of es room = answered number_of L.Refused (check_of es) (answered lack_number L.Refused (lack_of es room) (L.Good (layout_of es) (room.next + length (slots es)) (length (rules_of es))))
+unfoldable pub lower_of : List Entry → Room → Result Lowered Refusal
+lower_of es room = answered number_of Err (check_of es) (answered lack_number Err (lack_of es room) (good_lowering (layout_of es) (room.next + length (slots es)) (length (rules_of es))))
 
 -- ---- what is lent
 
 -- on a refusal what it was, and else something new
-abbrev pub unless : {A : Type 0} → Lowered → A → A → A
-unless (L.Refused r) was new = was
-unless (L.Good l next rows) was new = new
+abbrev pub unless : {A : Type 0} → Result Lowered Refusal → A → A → A
+unless (Err r) was new = was
+unless (Ok lowered) was new = new
 
 -- a list with new elements in the place of its first ones
 abbrev pub onto : {A : Type 0} → List A → List A → List A
@@ -76,7 +81,7 @@ abbrev pub room_in : ℕ → List ℕ → List Float → List ℕ → Room
 room_in next ids values rows = room_by next (length ids) (length values) (length rows)
 
 -- a call of lowering with the next id: its answer, and the ids, the values and the rows after it
-pub record Lowers (es : List Entry) (next : ℕ) (ids : List ℕ) (values : List Float) (rows : List ℕ) (r : Lowered) (ids' : List ℕ) (values' : List Float) (rows' : List ℕ) : Type 0 where
+pub record Lowers (es : List Entry) (next : ℕ) (ids : List ℕ) (values : List Float) (rows : List ℕ) (r : Result Lowered Refusal) (ids' : List ℕ) (values' : List Float) (rows' : List ℕ) : Type 0 where
   pub answer : r ≡ lower_of es (room_in next ids values rows)
   pub ids_are : ids' ≡ unless (lower_of es (room_in next ids values rows)) ids (onto ids (onward next (length (slots es))))
   pub values_are : values' ≡ unless (lower_of es (room_in next ids values rows)) values (onto values (values_of es))

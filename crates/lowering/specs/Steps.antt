@@ -1,13 +1,12 @@
 -- Lowering step by step, as the code goes: lines read from records and tables, shapes pushed in record order, ids and rows put behind one another.
 -- It mirrors the code and need not be read.
-use Rattle.std.specs.Prelude.{◌≡◌, ◌||◌, cond, List, [], ◌∷◌, map, ℕ, ◌+◌, ◌*◌, ◌≤◌, ◌<◌, ltb, eqb, length, get_or, Float}
+use Rattle.std.specs.Prelude.{◌≡◌, ◌||◌, cond, List, [], ◌∷◌, map, ℕ, ◌+◌, ◌*◌, ◌≤◌, ◌<◌, ltb, eqb, length, get_or, Float, Option, Some, None, Result, Ok, Err}
 use Rattle.ground.specs.Lists.{flat, up_to}
+use Rattle.refusal.specs.declared.Refusal.{Refusal}
+use Rattle.refusal.specs.Refusal.{refusal}
 use Rattle.refusal.specs.First.{EachBelow, passed}
 use Rattle.layout.specs.declared.Layout.{Layout}
 use Rattle.layout.specs.declared.Pushed.{Pushed}
-use Rattle.layout.specs.declared.Pushed.TheVariants as P
-use Rattle.layout.specs.declared.Stepped.{Stepped}
-use Rattle.layout.specs.declared.Stepped.TheVariants as S
 use Rattle.layout.specs.Slots.{ids_end, empty}
 use Rattle.layout.specs.Push.{State, state, over, onward}
 use Rattle.layout.specs.Run.{push, done, act, run}
@@ -18,11 +17,12 @@ use Rattle.record.specs.Entry.{Entry}
 use Rattle.names.specs.Cut.{known_parts}
 use Rattle.drawing.specs.Check.{check_of}
 use Rattle.row.specs.Row.{row_bytes, most_ids, encode_rows}
-use Rattle.lowering.specs.declared.shapes.Laid.{Laid}
 use Rattle.lowering.specs.declared.spans.Span.{Span}
 use Rattle.lowering.specs.Slots.{slots, layout_of, values_of}
 use Rattle.lowering.specs.Rows.{rows_of}
-use Rattle.lowering.specs.Lower.{Room, room_in, onto}
+use Rattle.lowering.specs.declared.Lack as code
+use Rattle.lowering.specs.declared.Lack.TheVariants as C
+use Rattle.lowering.specs.Lower.{Room, room_in, onto, Lack, few_ids, short_slices, short_rows, lack_number}
 use Rattle.lowering.specs.Demand.{Enough}
 use Rattle.lowering.specs.Sketch.{Line, many_of, first_in, span_at, ids_by, row_if, figure_of, of_kind}
 
@@ -58,13 +58,8 @@ numbers_in records guesses d part = let g = decode_at records (get_or guesses (d
 -- ---- pushes
 
 -- a layout and the next id, with the slices
-abbrev pub laid_in : Laid → List ℕ → List Float → State
+abbrev pub laid_in : Pushed → List ℕ → List Float → State
 laid_in l ids values = state l.layout l.next ids values
-
--- the layout after a push
-abbrev pub layout_after : Pushed → Layout → Layout
-layout_after (P.Good m next) l = m
-layout_after (P.Refused r) l = l
 
 -- line i, if it is of a kind
 abbrev pub one_of : (ℕ → ℕ) → ℕ → ℕ → List ℕ
@@ -73,11 +68,6 @@ one_of kinds kind i = cond (eqb (kinds i) kind) (i ∷ []) []
 -- the state after the shapes that some lines of a kind declare are pushed
 abbrev pub pushed_of : (ℕ → ℕ → ℕ × ℕ) → ℕ → List ℕ → State → State
 pushed_of numbers kind ds s = run (map push (map (λ d. figure_of (numbers d) kind) ds)) s
-
--- the layout after `done`
-abbrev pub layout_then : Stepped → Layout → Layout
-layout_then (S.Good m) l = m
-layout_then (S.Refused r) l = l
 
 -- the state after all shapes of a kind are pushed, at the next stage
 abbrev pub stage : (ℕ → ℕ) → (ℕ → ℕ → ℕ × ℕ) → ℕ → ℕ → State → State
@@ -171,7 +161,18 @@ pub record Filled (es : List Entry) (next : ℕ) (ids : List ℕ) (values : List
   pub slotted : Slotted (state (layout_of es) (next + length (slots es)) (onto ids (onward next (length (slots es)))) (onto values (values_of es))) l ids' values'
   pub rows_are : rows' ≡ onto rows (encode_rows (rows_of es next))
 
--- 36, 37 or 38, by how many slots and rows there are, or 0
-abbrev pub lack_told : Room → ℕ → ℕ → ℕ
+-- a lack of the code
+abbrev pub lack_by : code.Lack → Lack
+lack_by C.FewIds = few_ids
+lack_by C.ShortSlices = short_slices
+lack_by C.ShortRows = short_rows
+
+-- what is refused with it, if there is one
+abbrev pub refused_by : Result Unit code.Lack → Option Refusal
+refused_by (Ok tt) = None
+refused_by (Err lack) = Some (refusal (lack_number (lack_by lack)) 0)
+
+-- 36, 37 or 38, by how many slots and rows there are, if one is told
+abbrev pub lack_told : Room → ℕ → ℕ → Option Refusal
 lack_told room slots rows =
-    cond (ltb ids_end (room.next + slots)) 36 (cond (ltb room.ids slots || ltb room.values slots) 37 (cond (ltb room.row_bytes (rows * row_bytes)) 38 0))
+    cond (ltb ids_end (room.next + slots)) (Some (refusal 36 0)) (cond (ltb room.ids slots || ltb room.values slots) (Some (refusal 37 0)) (cond (ltb room.row_bytes (rows * row_bytes)) (Some (refusal 38 0)) None))

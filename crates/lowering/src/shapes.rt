@@ -1,208 +1,171 @@
 // The shapes of a drawing with their guesses, pushed through the layout: points, circles, arcs, each in record order.
 ghost use Rattle.std.specs.Prelude.{◌≡◌, ◌+◌, ◌*◌, ◌≤◌, ◌<◌, get_or};
+ghost use Rattle.std.specs.Result.{result_unwrap_or};
 ghost use Rattle.record.specs.Record.{most_records};
 ghost use Rattle.record.specs.Decode.{count_of as records_in, decode_at};
 ghost use Rattle.names.specs.Cut.{known_parts};
 ghost use Rattle.layout.specs.Slots.{empty};
 ghost use Rattle.layout.specs.Push.{Push, state, done_of};
-ghost use Rattle.layout.specs.Steps.{next_after};
 ghost use Rattle.lowering.specs.Sketch.{pair_of, circle_of, arc_of, figure_of, of_kind};
-ghost use Rattle.lowering.specs.Steps.{kinds_of, numbers_in, laid_in, layout_after, one_of, pushed_of, layout_then, stage, laid, Slotted};
+ghost use Rattle.lowering.specs.Steps.{kinds_of, numbers_in, laid_in, one_of, pushed_of, stage, laid, Slotted};
 
+use crate::sheet::Sheet;
 use bits::from_bits;
 use kinds::{NEW_ARC, NEW_CIRCLE, NEW_POINT};
-use layout::{Arc, Circle, Layout, Point, Pushed, Stepped};
+use layout::{Arc, Circle, Layout, Point, Pushed};
 use names::labels::kind_at;
-use names::read::wide;
 use names::{A, B, CENTER, GUESSES, PARTS, RADIUS, WHOLE};
 use record::decode::decode_record;
 use record::{Record, SIZE};
+use refusal::Refusal;
 
-// A layout and the next id.
+// The shape that record i declares, by the table of the guesses of the parts of all shapes.
 #[derive(Clone, Copy)]
-pub(crate) struct Laid {
-    pub layout: Layout,
-    pub next: u32,
-}
-
-// The guess of a part of the shape that record i declares.
-fn guess_of(records: &[u8], guesses: &[u16; GUESSES], i: usize, part: usize) -> Record
-    requires { (i < most_records) × (part < known_parts) }
-    ensures { result ≡ decode_at records.now (get_or guesses.now (i * known_parts + part) 0) }
-{
-    decode_record(records, wide(guesses[i * PARTS + part]))
-}
-
-// The pair that a part of it starts at.
-fn pair_of(records: &[u8], guesses: &[u16; GUESSES], i: usize, part: usize) -> Point
-    requires { (i < most_records) × (part < known_parts) }
-    ensures { result ≡ pair_of (numbers_in records.now guesses.now i) part }
-{
-    let guess = guess_of(records, guesses, i, part);
-    Point {
-        x: from_bits(guess.x),
-        y: from_bits(guess.y),
-    }
-}
-
-// The circle that record i declares, as it starts.
-fn circle_of(records: &[u8], guesses: &[u16; GUESSES], i: usize) -> Circle
-    requires { i < most_records }
-    ensures { result ≡ circle_of (numbers_in records.now guesses.now i) }
-{
-    let radius = guess_of(records, guesses, i, RADIUS);
-    Circle {
-        center: pair_of(records, guesses, i, CENTER),
-        radius: from_bits(radius.x),
-    }
-}
-
-// The arc that record i declares, as it starts.
-fn arc_of(records: &[u8], guesses: &[u16; GUESSES], i: usize) -> Arc
-    requires { i < most_records }
-    ensures { result ≡ arc_of (numbers_in records.now guesses.now i) }
-{
-    Arc {
-        a: pair_of(records, guesses, i, A),
-        b: pair_of(records, guesses, i, B),
-        center: pair_of(records, guesses, i, CENTER),
-    }
-}
-
-// Pushes the shape of a kind that record i declares.
-fn push_shape(
-    records: &[u8],
-    guesses: &[u16; GUESSES],
-    kind: u8,
+struct Declared<'a> {
+    records: &'a [u8],
+    guesses: &'a [u16; GUESSES],
     i: usize,
-    l: Layout,
-    next: u32,
-    ids: &mut [u32],
-    values: &mut [f64],
-) -> Pushed
-    requires { i < most_records }
-    ensures { Push (figure_of (numbers_in records.now guesses.now i) kind) (state l next ids.old values.old) result ids.new values.new }
-{
-    match kind {
-        NEW_POINT => l.push_point(next, ids, values, pair_of(records, guesses, i, WHOLE)),
-        NEW_CIRCLE => l.push_circle(next, ids, values, circle_of(records, guesses, i)),
-        _ => l.push_arc(next, ids, values, arc_of(records, guesses, i)),
+    ghost inside: { i < most_records },
+}
+
+impl Declared<'_> {
+    // The guess of a part of it.
+    fn guess(&self, part: usize) -> Record
+        requires { part < known_parts }
+        ensures { result ≡ decode_at self.now.records.now (get_or self.now.guesses.now (self.now.i * known_parts + part) 0) }
+    {
+        decode_record(self.records, self.guesses[self.i * PARTS + part] as usize)
+    }
+
+    // The pair that a part of it starts at.
+    fn pair(&self, part: usize) -> Point
+        requires { part < known_parts }
+        ensures { result ≡ pair_of (numbers_in self.now.records.now self.now.guesses.now self.now.i) part }
+    {
+        let guess = self.guess(part);
+        Point {
+            x: from_bits(guess.x),
+            y: from_bits(guess.y),
+        }
+    }
+
+    // The circle that it is, as it starts.
+    fn circle(&self) -> Circle
+        ensures { result ≡ circle_of (numbers_in self.now.records.now self.now.guesses.now self.now.i) }
+    {
+        Circle {
+            center: self.pair(CENTER),
+            radius: from_bits(self.guess(RADIUS).x),
+        }
+    }
+
+    // The arc that it is, as it starts.
+    fn arc(&self) -> Arc
+        ensures { result ≡ arc_of (numbers_in self.now.records.now self.now.guesses.now self.now.i) }
+    {
+        Arc {
+            a: self.pair(A),
+            b: self.pair(B),
+            center: self.pair(CENTER),
+        }
+    }
+
+    // Pushes it as a shape of a kind.
+    fn push(
+        &self,
+        kind: u8,
+        last: Pushed,
+        ids: &mut [u32],
+        values: &mut [f64],
+    ) -> Result<Pushed, Refusal>
+        ensures { Push (figure_of (numbers_in self.now.records.now self.now.guesses.now self.now.i) kind) (state last.layout last.next ids.old values.old) result ids.new values.new }
+    {
+        let l = last.layout;
+        match kind {
+            NEW_POINT => l.push(last.next, ids, values, self.pair(WHOLE)),
+            NEW_CIRCLE => l.push(last.next, ids, values, self.circle()),
+            _ => l.push(last.next, ids, values, self.arc()),
+        }
+    }
+
+    // Pushes it, if it is of a kind; a push that is refused changes nothing.
+    #[tactic(auto, unfolding(layout::specs::Run::run))]
+    fn push_if(&self, kind: u8, last: Pushed, ids: &mut [u32], values: &mut [f64]) -> Pushed
+        ensures { laid_in result ids.new values.new ≡ pushed_of (numbers_in self.now.records.now self.now.guesses.now) kind (one_of (kinds_of self.now.records.now) kind self.now.i) (laid_in last ids.old values.old) }
+    {
+        if kind_at(self.records, self.i) != kind {
+            return last;
+        }
+        self.push(kind, last, ids, values).unwrap_or(last)
     }
 }
 
-// The layout after a push, or as it was where the push is refused.
-fn layout_after(p: Pushed, l: Layout) -> Layout
-    ensures { result ≡ layout_after p l }
-{
-    match p {
-        Pushed::Good(m, _) => m,
-        Pushed::Refused(_) => l,
+// All shapes that records declare, with the table of the guesses of their parts.
+#[derive(Clone, Copy)]
+struct Shapes<'a> {
+    records: &'a [u8],
+    guesses: &'a [u16; GUESSES],
+    ghost few: { records_in records.now ≤ most_records },
+}
+
+impl Shapes<'_> {
+    // Pushes the shapes of a kind, in record order.
+    #[tactic(auto, using(crate::proofs::slots::Steps::pushes_turn), unfolding(crate::specs::Sketch::of_kind, layout::specs::Run::run))]
+    fn push_all(&self, kind: u8, start: Pushed, ids: &mut [u32], values: &mut [f64]) -> Pushed
+        ensures { laid_in result ids.new values.new ≡ pushed_of (numbers_in self.now.records.now self.now.guesses.now) kind (of_kind (kinds_of self.now.records.now) kind (records_in self.now.records.now)) (laid_in start ids.old values.old) }
+    {
+        let mut last = start;
+        for i in 0..self.records.len() / SIZE {
+            let shape = Declared {
+                records: self.records,
+                guesses: self.guesses,
+                i,
+            };
+            last = shape.push_if(kind, last, ids, values);
+        }
+        last
+    }
+
+    // Pushes the shapes of a kind, and steps to the next stage.
+    #[tactic(auto, using(crate::proofs::slots::Steps::staged))]
+    fn push_stage(&self, kind: u8, start: Pushed, ids: &mut [u32], values: &mut [f64]) -> Pushed
+        ensures { laid_in result ids.new values.new ≡ stage (kinds_of self.now.records.now) (numbers_in self.now.records.now self.now.guesses.now) (records_in self.now.records.now) kind (laid_in start ids.old values.old) }
+    {
+        step(self.push_all(kind, start, ids, values))
     }
 }
 
-// The next id after a push.
-fn next_after(p: Pushed, next: u32) -> u32
-    ensures { result ≡ next_after p next }
+// The next stage; one that is refused stays.
+fn step(l: Pushed) -> Pushed
+    ensures { result ≡ record { layout = result_unwrap_or (done_of l.layout) l.layout; next = l.next } }
 {
-    match p {
-        Pushed::Good(_, n) => n,
-        Pushed::Refused(_) => next,
+    Pushed {
+        layout: l.layout.done().unwrap_or(l.layout),
+        ..l
     }
-}
-
-// Pushes the shape that record i declares, if it is of a kind.
-fn push_at(
-    records: &[u8],
-    guesses: &[u16; GUESSES],
-    kind: u8,
-    i: usize,
-    last: Laid,
-    ids: &mut [u32],
-    values: &mut [f64],
-) -> Laid
-    requires { i < most_records }
-    ensures { laid_in result ids.new values.new ≡ pushed_of (numbers_in records.now guesses.now) kind (one_of (kinds_of records.now) kind i) (laid_in last ids.old values.old) }
-{
-    if kind_at(records, i) != kind {
-        return last;
-    }
-    let l = last.layout;
-    let next = last.next;
-    let p = push_shape(records, guesses, kind, i, l, next, ids, values);
-    Laid {
-        layout: layout_after(p, l),
-        next: next_after(p, next),
-    }
-}
-
-// Pushes the shapes of a kind, in record order.
-fn push_all(
-    records: &[u8],
-    guesses: &[u16; GUESSES],
-    kind: u8,
-    start: Laid,
-    ids: &mut [u32],
-    values: &mut [f64],
-) -> Laid
-    requires { records_in records.now ≤ most_records }
-    ensures { laid_in result ids.new values.new ≡ pushed_of (numbers_in records.now guesses.now) kind (of_kind (kinds_of records.now) kind (records_in records.now)) (laid_in start ids.old values.old) }
-{
-    let n = records.len() / SIZE;
-    let mut last = start;
-    let mut i = 0;
-    while i < n {
-        last = push_at(records, guesses, kind, i, last, ids, values);
-        i += 1;
-    }
-    last
-}
-
-// The next stage.
-fn step(l: Laid) -> Laid
-    ensures { result ≡ record { layout = layout_then (done_of l.layout) l.layout; next = l.next } }
-{
-    let layout = l.layout;
-    match layout.done() {
-        Stepped::Good(m) => Laid {
-            layout: m,
-            next: l.next,
-        },
-        Stepped::Refused(_) => l,
-    }
-}
-
-// Pushes the shapes of a kind, and steps to the next stage.
-fn push_stage(
-    records: &[u8],
-    guesses: &[u16; GUESSES],
-    kind: u8,
-    start: Laid,
-    ids: &mut [u32],
-    values: &mut [f64],
-) -> Laid
-    requires { records_in records.now ≤ most_records }
-    ensures { laid_in result ids.new values.new ≡ stage (kinds_of records.now) (numbers_in records.now guesses.now) (records_in records.now) kind (laid_in start ids.old values.old) }
-{
-    step(push_all(records, guesses, kind, start, ids, values))
 }
 
 // Fills the slots of a drawing with all points, then all circles, then all arcs, from the next id on, and hands back its layout.
+#[tactic(auto, using(crate::proofs::slots::Steps::slotted))]
 pub(crate) fn fill_slots(
-    records: &[u8],
+    sheet: &Sheet,
     guesses: &[u16; GUESSES],
     next: u32,
     ids: &mut [u32],
     values: &mut [f64],
 ) -> Layout
-    requires { records_in records.now ≤ most_records }
-    ensures { Slotted (laid (kinds_of records.now) (numbers_in records.now guesses.now) (records_in records.now) (state empty next ids.old values.old)) result ids.new values.new }
+    ensures { Slotted (laid (kinds_of sheet.now.records.now) (numbers_in sheet.now.records.now guesses.now) (records_in sheet.now.records.now) (state empty next ids.old values.old)) result ids.new values.new }
 {
-    let none = Laid {
+    let shapes = Shapes {
+        records: sheet.records,
+        guesses,
+    };
+    let none = Pushed {
         layout: Layout::new(),
         next,
     };
-    let points = push_stage(records, guesses, NEW_POINT, none, ids, values);
-    let circles = push_stage(records, guesses, NEW_CIRCLE, points, ids, values);
-    let last = push_stage(records, guesses, NEW_ARC, circles, ids, values);
+    let points = shapes.push_stage(NEW_POINT, none, ids, values);
+    let circles = shapes.push_stage(NEW_CIRCLE, points, ids, values);
+    let last = shapes.push_stage(NEW_ARC, circles, ids, values);
     last.layout
 }

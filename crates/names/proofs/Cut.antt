@@ -6,6 +6,7 @@ use Prim.Native.Nat.{ℕ, zero, suc, ◌+◌, ◌*◌, ◌%◌, ◌≤◌, ◌<�
 use native.Mathlib.Numerals.{add-one}
 use native.Mathlib.Omega.{arith}
 use lib.Dec.{eqb}
+use lib.Pointwise.{pointwise}
 use lib.ListN.{length, take, drop, get_or, length-append, drop_of_length-le}
 use lib.Seq.{drop-cons, take-append_seam, drop-append_seam}
 use borrow.Author.Tests.{eq-eqb, ne_eqb}
@@ -14,9 +15,9 @@ use Rattle.ground.proofs.Lists.{either_le}
 use Rattle.text.proofs.Laws.{cond_of}
 use Rattle.record.specs.Entry.{Label}
 use Rattle.names.specs.Labels.{same}
-use Rattle.names.specs.Cut.{dot, stem, behind, Pointless, part_no}
+use Rattle.names.specs.Cut.{dot, stem, behind, Pointless, known_parts, part_no}
 use Rattle.names.specs.Chains.{chains, hash_from, hash_of}
-use Rattle.names.proofs.Laws.{says_same}
+use Rattle.names.proofs.Laws.{says_same, same_is}
 use native.Mathlib.Nat.{zero-lt-suc}
 use Rattle.text.specs.Text.{is_alphanum}
 use Rattle.refusal.proofs.Says.{says_eq, refuted}
@@ -144,8 +145,12 @@ plain_pointless l p = pointless_by l (no_point l p)
 
 -- ---- the numbers of parts
 
-pub part_none : (t : Label) → length t ≡ 0 → same t [] ≡ true
-part_none t e = (says_same t []).back (drop_of_length-le t {i = 0} (omega arith))
+-- what is none of the known suffixes is any other part
+pub part_other : (t : Label) → (length t ≡ 0 → ⊥) → pointwise eqb t (bytes ".center") ≡ false → pointwise eqb t (bytes ".radius") ≡ false → pointwise eqb t (bytes ".a") ≡ false
+    → pointwise eqb t (bytes ".b") ≡ false → known_parts ≡ part_no t
+part_other t some center radius a b =
+    let e : same t [] ≡ false = refuted (says_same t []) (λ h. some (ap length h)) in
+    rw (e, ← same_is t (bytes ".center"), center, ← same_is t (bytes ".radius"), radius, ← same_is t (bytes ".a"), a, ← same_is t (bytes ".b"), b) refl
 
 pub part_small : (t : Label) → part_no t ≤ 5
 part_small t =

@@ -14,12 +14,18 @@ use Rattle.record.specs.Record.{record_bytes, first_guess}
 use Rattle.record.specs.Decode.{decode, count_of, record_of, decode_at, view_at, place_in, has_place}
 use Rattle.record.specs.Entry.{Entry, no_entry, entry_at, label_no, part, named, entry_of, no_view, view_of}
 use Rattle.kinds.specs.Kinds.{kind_at, label_places, Known}
-use Rattle.record.specs.Laid.{LaidRecord}
+use Rattle.record.specs.Laid.{LaidRecord, LaidOut, laid_out}
 use Rattle.record.specs.Formed.{WellFormed, entries}
 use Rattle.ground.proofs.UpTo.{length_up_to, get_or_up_to}
 use Rattle.kinds.proofs.Table.{some_label, few_labels, guess_labels}
+use Rattle.record.proofs.Laid.{says_laid_out}
 use Rattle.record.proofs.Entries.{entry_good, entry_at_lem, whole_length}
 use Rattle.names.specs.Labels.{drawn, kind_no}
+
+-- ---- records that are laid out
+
+pub laid_by : (text bs : List ℕ) → laid_out text bs ≡ true → LaidOut text bs
+laid_by text bs = (says_laid_out text bs).so
 
 -- ---- the bytes of a record
 

@@ -1,15 +1,14 @@
 -- Labels that are the same, and a kind from one to another. Assumes nothing.
-use mathlib.Core.Path.{◌≡◌, refl, sym, ap}
-use mathlib.Core.Bool.{true, false, true≢false}
+use mathlib.Core.Path.{◌≡◌, refl, sym}
+use mathlib.Core.Bool.{true≢false}
 use mathlib.Core.List.{List, [], ◌∷◌, nil≢cons, cons≢nil, tail-eq_of_cons-eq, head-eq_of_cons-eq}
-use Prim.Native.Nat.{ℕ, ◌+◌, ◌-◌, ◌≤◌, ◌<◌}
-use native.Mathlib.Numerals.{add-one}
+use Prim.Native.Nat.{ℕ, ◌-◌, ◌≤◌}
 use native.Mathlib.Omega.{arith}
-use lib.ListN.{length, take, drop, get_or, drop_of_length-le, length-drop}
-use lib.Seq.{drop-cons, take_all}
+use lib.ListN.{length, take, drop, length-drop}
+use lib.Seq.{take_all}
 use lib.Dec.{eqb}
-use borrow.Author.Tests.{eq-eqb, ne_eqb}
-use Rattle.refusal.proofs.Says.{Says, refuted, says_once, says_and, says_iff, says_eq, says_le}
+use lib.Pointwise.{pointwise}
+use Rattle.refusal.proofs.Says.{Says, says_once, says_and, says_iff, says_eq, says_le}
 use Rattle.record.specs.Entry.{Label}
 use Rattle.names.specs.Labels.{same, within}
 
@@ -23,18 +22,12 @@ says_same (a ∷ s) [] = record { so = λ e. absurd (true≢false (sym e)); back
 says_same (a ∷ s) (b ∷ t) =
     says_iff (λ p. cc) (λ e. (head-eq_of_cons-eq e, tail-eq_of_cons-eq e)) (says_and (says_eq a b) (says_same s t))
 
-pub same_length : (a b : Label) → (length a ≡ length b → ⊥) → same a b ≡ false
-same_length a b f = refuted (says_same a b) (λ e. f (ap length e))
-
-module _ (a b : Label) (i : ℕ) where
-  pub same_more : i < length a → i < length b → get_or a i 0 ≡ get_or b i 0 → same (drop i a) (drop i b) ≡ same (drop (i + 1) a) (drop (i + 1) b)
-  same_more ha hb e = rw (add-one i, drop-cons a i 0 ha, drop-cons b i 0 hb, eq-eqb _ _ e) refl
-
-  pub same_stop : i < length a → i < length b → (get_or a i 0 ≡ get_or b i 0 → ⊥) → same (drop i a) (drop i b) ≡ false
-  same_stop ha hb e = rw (drop-cons a i 0 ha, drop-cons b i 0 hb, ne_eqb _ _ e) refl
-
-  pub same_end : length a ≤ i → length b ≤ i → same (drop i a) (drop i b) ≡ true
-  same_end ha hb = rw (drop_of_length-le a ha, drop_of_length-le b hb) refl
+-- comparing two labels byte by byte is that test
+pub same_is : (s t : Label) → pointwise eqb s t ≡ same s t
+same_is [] [] = refl
+same_is [] (b ∷ t) = refl
+same_is (a ∷ s) [] = refl
+same_is (a ∷ s) (b ∷ t) = rw (same_is s t) refl
 
 -- what stands from a place on
 pub rest_of : (s : List ℕ) (n : ℕ) → take (length s - n) (drop n s) ≡ drop n s

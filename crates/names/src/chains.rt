@@ -1,56 +1,57 @@
 // Which record declares a label: chains of declarations by the hash of their labels, and a walk along one.
 ghost use Rattle.std.specs.Prelude.{◌≡◌, true, ◌≤◌, ◌<◌, length};
 ghost use Rattle.kinds.specs.Kinds.{new_point, new_arc};
-ghost use Rattle.record.specs.Record.{most_records};
-ghost use Rattle.record.specs.Decode.{count_of as records_in};
-ghost use Rattle.record.specs.Laid.{LaidOut};
 ghost use Rattle.names.specs.Labels.{drawn, labelled};
-ghost use Rattle.names.specs.Chains.{chains, hash_of, hashed, first_from, NextsFrom, Chained};
-ghost use Rattle.names.specs.Steps.{FilledWith};
+ghost use Rattle.names.specs.Chains.{hash_of, hashed, first_from, NextsFrom, Chained};
 
-use crate::labels::{kind_of, label_of, same};
+use crate::laid::Laid;
 use crate::pieces::front;
 use kinds::NEW_ARC;
-use record::{MOST, SIZE};
+use record::MOST;
 
 // How many chains there are.
 pub(crate) const HEADS: usize = 1_024;
 
-// From the last record to the first: each declaration goes to the front of its chain.
-pub(crate) fn chain(text: &[u8], records: &[u8], heads: &mut [u16; HEADS], nexts: &mut [u16; MOST])
-    requires { LaidOut text.now records.now × FilledWith chains (records_in records.now) heads.old × (length nexts.old ≡ most_records) }
-    ensures { Chained (drawn text.now records.now) heads.new nexts.new }
-{
-    let mut i = records.len() / SIZE;
-    while 0 < i {
-        i -= 1;
-        if kind_of(records, i) <= NEW_ARC {
-            let f = front(label_of(text, records, i, 0));
-            let hash = f.hash;
-            nexts[i] = heads[hash];
-            heads[hash] = i as u16;
-        }
-    }
+// For each hash the first declaration that has it, and for each declaration the next one; the number of records stands for none.
+#[derive(Drop)]
+pub(crate) struct Chains {
+    pub heads: [u16; HEADS],
+    pub nexts: [u16; MOST],
 }
 
-// The first record from one of a chain on that declares a label, or the number of records.
-pub(crate) fn walk(
-    text: &[u8],
-    records: &[u8],
-    nexts: &[u16; MOST],
-    label: &[u8],
-    start: usize,
-) -> usize
-    requires { LaidOut text.now records.now × NextsFrom (drawn text.now records.now) 0 nexts.now × (start ≤ length (drawn text.now records.now)) × (start < length (drawn text.now records.now) → hashed (drawn text.now records.now) (hash_of label.now) start ≡ true) }
-    ensures { result ≡ first_from (labelled (drawn text.now records.now) new_point new_arc label.now) (length (drawn text.now records.now)) start }
-{
-    let n = records.len() / SIZE;
-    let mut i = start;
-    while i < n {
-        if same(label_of(text, records, i, 0), label) {
-            return i;
+impl Chains {
+    // The chains of the declarations: from the last record to the first, each goes to the front of its chain.
+    pub(crate) fn of(page: &Laid) -> Self
+        ensures { Chained (drawn page.now.text.now page.now.records.now) result.heads result.nexts }
+    {
+        let n = page.count();
+        let mut heads = [n as u16; HEADS];
+        let mut nexts = [n as u16; MOST];
+        for i in (0..n).rev() {
+            let declares = page.kind(i) <= NEW_ARC;
+            if declares {
+                let f = front(page.label(i, 0));
+                let hash = f.hash;
+                nexts[i] = heads[hash];
+                heads[hash] = i as u16;
+            }
         }
-        i = nexts[i] as usize;
+        Chains { heads, nexts }
     }
-    n
+
+    // The first record from one of a chain on that declares a label, or the number of records. No `for`: it goes by the table of nexts.
+    pub(crate) fn walk(&self, page: &Laid, label: &[u8], start: usize) -> usize
+        requires { NextsFrom (drawn page.now.text.now page.now.records.now) 0 self.now.nexts × (start ≤ length (drawn page.now.text.now page.now.records.now)) × (start < length (drawn page.now.text.now page.now.records.now) → hashed (drawn page.now.text.now page.now.records.now) (hash_of label.now) start ≡ true) }
+        ensures { result ≡ first_from (labelled (drawn page.now.text.now page.now.records.now) new_point new_arc label.now) (length (drawn page.now.text.now page.now.records.now)) start }
+    {
+        let n = page.count();
+        let mut i = start;
+        while i < n {
+            if page.label(i, 0) == label {
+                return i;
+            }
+            i = self.nexts[i] as usize;
+        }
+        n
+    }
 }

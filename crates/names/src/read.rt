@@ -1,11 +1,11 @@
-// What the tables are read by.
+// What the tables are read by; `wide_only` and `either_only` speak of these two.
 ghost use Rattle.std.specs.Prelude.{◌≡◌, cond};
 
 // A number of two bytes.
 pub fn wide(x: u16) -> usize
     ensures { result ≡ x }
 {
-    x as usize
+    usize::from(x)
 }
 
 // One of two numbers, by a test.

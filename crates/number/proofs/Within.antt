@@ -12,13 +12,11 @@ use Rattle.text.specs.declared.Stand.{Stand}
 use Rattle.text.specs.declared.Stand.TheVariants.{At}
 use Rattle.text.proofs.Laws.{from_of, cond_of}
 use Rattle.text.proofs.Within.{Within, earlier, within_of, run_to_within, word_at_within, byte_within}
-use Rattle.decimal.specs.declared.Carried.{Carried}
-use Rattle.decimal.specs.declared.Carried.TheVariants.{Bits, Outside}
+use Rattle.std.specs.Prelude.{Option, Some, None}
 use Rattle.decimal.proofs.Small.{Small, carried_small}
 use Rattle.root.proofs.Small.{root_small}
 use Rattle.number.specs.Number.{is_digit, is_sign, is_point, is_exponent, is_word, step_over, digits_to, part_at, end_at, no_digit, exponent_at, scale_of, carried_by, no_number, valued, scaled, number_at, number_on, depth, closed, expr_at, expr_on}
-use Rattle.number.specs.declared.Exponent.{Exponent}
-use Rattle.number.specs.declared.Exponent.TheVariants.{Power, Missing}
+use Rattle.number.specs.declared.Power.{Power}
 use Rattle.number.specs.declared.Number.{Number}
 use Rattle.number.proofs.Places.{inside}
 
@@ -32,18 +30,18 @@ module _ (s : List ℕ) where
   unread t h = record { fits = lit< tt; within = h }
 
   -- the place behind an exponent
-  abbrev Reaches : ℕ → Exponent → Type 0
-  Reaches p (Power below size next) = Within s p (At next)
-  Reaches p Missing = Unit {0}
+  abbrev Reaches : ℕ → Option Power → Type 0
+  Reaches p (Some power) = Within s p (At power.next)
+  Reaches p None = Unit {0}
 
-  valued_read : {p : ℕ} (at next : ℕ) (c : Carried) → Small c → Within s p (At next) → Read p (valued at next c)
-  valued_read at next (Bits b) h k = record { fits = h; within = k }
-  valued_read at next Outside h k = unread (refused_at 8 at) tt
+  valued_read : {p : ℕ} (at next : ℕ) (c : Option ℕ) → Small c → Within s p (At next) → Read p (valued at next c)
+  valued_read at next (Some b) h k = record { fits = h; within = k }
+  valued_read at next None h k = unread (refused_at 8 at) tt
 
-  scaled_read : {p : ℕ} (at : ℕ) (negative : Bool) (m count : ℕ) (e : Exponent) → Reaches p e → Read p (scaled at negative m count e)
-  scaled_read at negative m count (Power below size next) h =
-      valued_read at next (carried_by m negative below size count) (carried_small m (scale_of below size count) negative) h
-  scaled_read at negative m count Missing h = unread (refused_at 8 at) tt
+  scaled_read : {p : ℕ} (at : ℕ) (negative : Bool) (m count : ℕ) (e : Option Power) → Reaches p e → Read p (scaled at negative m count e)
+  scaled_read at negative m count (Some power) h =
+      valued_read at power.next (carried_by m negative power.negative power.size count) (carried_small m (scale_of power.negative power.size count) negative) h
+  scaled_read at negative m count None h = unread (refused_at 8 at) tt
 
   step_within : (test : ℕ → Bool) (at : ℕ) → test 0 ≡ false → Within s at (At (step_over test s at))
   unfolding step_over
@@ -55,7 +53,7 @@ module _ (s : List ℕ) where
   exponent_within p at h =
       let first = step_over is_sign s (at + 1) in
       cond_of (Reaches p) (is_exponent (get_or s at 0)) _ _
-      (λ e. cond_of (Reaches p) (leb (digits_to s first) first) Missing _ (λ f. tt)
+      (λ e. cond_of (Reaches p) (leb (digits_to s first) first) None _ (λ f. tt)
       (λ f.
       let letter : Within s p (At (at + 1)) = (omega arith, omega (arith, inside is_exponent s at refl e)) in
       earlier s (At _) (earlier s (At first) letter (step_within is_sign (at + 1) refl)) (run_to_within is_digit s first)))

@@ -1,5 +1,5 @@
 -- A number and an expression at a place of a text (docs/FORMAT.md, "Number", "Not carried" and "Expression"). Assumes nothing.
-use Rattle.std.specs.Prelude.{◌≡◌, Bool, true, false, cond, ◌||◌, ◌&&◌, List, [], ◌∷◌, ◌++◌, ℕ, zero, suc, ◌+◌, ◌-◌, ◌*◌, ◌^◌, min, leb, eqb, drop, get_or}
+use Rattle.std.specs.Prelude.{◌≡◌, Bool, true, false, cond, ◌||◌, ◌&&◌, Option, Some, None, List, [], ◌∷◌, ◌++◌, ℕ, zero, suc, ◌+◌, ◌-◌, ◌*◌, ◌^◌, min, leb, eqb, drop, get_or}
 use Rattle.ground.specs.Words.{bytes}
 use Rattle.text.specs.Text.{from, refused_at, in_range, leading, run_to, word_at, byte_on}
 use Rattle.text.specs.declared.Stand.{Stand}
@@ -7,12 +7,9 @@ use Rattle.text.specs.declared.Stand.TheVariants.{At, Nothing}
 use Rattle.decimal.specs.Decimal.{limit, carried}
 use Rattle.decimal.specs.declared.Scale.{Scale}
 use Rattle.decimal.specs.declared.Scale.TheVariants.{Times, Over}
-use Rattle.decimal.specs.declared.Carried.{Carried}
-use Rattle.decimal.specs.declared.Carried.TheVariants.{Bits, Outside}
 use Rattle.root.specs.Function.{root_of}
 use Rattle.number.specs.declared.Number.{Number}
-use Rattle.number.specs.declared.Exponent.{Exponent}
-use Rattle.number.specs.declared.Exponent.TheVariants.{Power, Missing}
+use Rattle.number.specs.declared.Power.{Power}
 
 -- ---- bytes
 
@@ -77,19 +74,20 @@ no_digit s first = eqb (digits_to s first) first && eqb (end_at s first) (part_a
 -- ---- the exponent
 
 -- no `e` is the exponent 0; `e` and an optional sign without digits is missing its digits
-unfoldable pub exponent_at : List ℕ → ℕ → Exponent
+unfoldable pub exponent_at : List ℕ → ℕ → Option Power
 exponent_at s at =
     let first = step_over is_sign s (at + 1) in
     cond (is_exponent (get_or s at 0))
-    (cond (leb (digits_to s first) first) Missing (Power (is_minus (get_or s (at + 1) 0)) (numeral 0 (digits_at s first)) (digits_to s first)))
-    (Power false 0 at)
+    (cond (leb (digits_to s first) first) None
+    (Some (record { negative = is_minus (get_or s (at + 1) 0); size = numeral 0 (digits_at s first); next = digits_to s first })))
+    (Some (record { negative = false; size = 0; next = at }))
 
 -- k is the exponent, below zero or not, less the count of digits after the point
 abbrev pub scale_of : Bool → ℕ → ℕ → Scale
 scale_of true size count = Over (size + count)
 scale_of false size count = cond (leb count size) (Times (size - count)) (Over (count - size))
 
-abbrev pub carried_by : ℕ → Bool → Bool → ℕ → ℕ → Carried
+abbrev pub carried_by : ℕ → Bool → Bool → ℕ → ℕ → Option ℕ
 carried_by m negative below size count = carried m (scale_of below size count) negative
 
 -- ---- the number
@@ -99,14 +97,14 @@ abbrev pub no_number : Stand → Number
 no_number stand = record { bits = 0; then = stand }
 
 -- the bits of a carried number with the place after it, or 8 at its first byte
-abbrev pub valued : ℕ → ℕ → Carried → Number
-valued at next (Bits bits) = record { bits = bits; then = At next }
-valued at next Outside = no_number (refused_at 8 at)
+abbrev pub valued : ℕ → ℕ → Option ℕ → Number
+valued at next (Some bits) = record { bits = bits; then = At next }
+valued at next None = no_number (refused_at 8 at)
 
 -- a number by its sign, its digits m, the count of those after the point, and its exponent
-abbrev pub scaled : ℕ → Bool → ℕ → ℕ → Exponent → Number
-scaled at negative m count (Power below size next) = valued at next (carried_by m negative below size count)
-scaled at negative m count Missing = no_number (refused_at 8 at)
+abbrev pub scaled : ℕ → Bool → ℕ → ℕ → Option Power → Number
+scaled at negative m count (Some power) = valued at power.next (carried_by m negative power.negative power.size count)
+scaled at negative m count None = no_number (refused_at 8 at)
 
 -- a number at a place: an optional sign; digits with an optional point and digits; an optional exponent
 unfoldable pub number_at : List ℕ → ℕ → Number
@@ -150,18 +148,17 @@ capped most n = min n most
 abbrev pub exponent_cap : ℕ
 exponent_cap = 2 ^ 63 + 22
 
-abbrev pub capped_exponent : Exponent → Exponent
-capped_exponent (Power below size next) = Power below (capped exponent_cap size) next
-capped_exponent Missing = Missing
+abbrev pub capped_exponent : Option Power → Option Power
+capped_exponent (Some power) = Some (record { negative = power.negative; size = capped exponent_cap power.size; next = power.next })
+capped_exponent None = None
 
 -- the digits at a place, behind those of start: the number that they write and the place after them
 pub record Run (s : List ℕ) (at start most value next : ℕ) : Type 0 where
   pub value_is : value ≡ capped most (numeral start (digits_at s at))
   pub next_is : next ≡ digits_to s at
 
--- the digits before and after the point: the number that they write, how many stand after it, where they end, and whether there is none
-pub record Joined (s : List ℕ) (first m count end : ℕ) (none : Bool) : Type 0 where
+-- the digits before and after the point: the number that they write, how many stand after it, and where they end
+pub record Joined (s : List ℕ) (first m count end : ℕ) : Type 0 where
   pub m_is : m ≡ capped limit (numeral 0 (all_digits s first))
   pub count_is : count ≡ end_at s first - part_at s first
   pub end_is : end ≡ end_at s first
-  pub none_is : none ≡ no_digit s first

@@ -1,7 +1,7 @@
 -- The laws of the digits and of their count. Assumes nothing.
 use mathlib.Core.Path.{◌≡◌, refl}
 use mathlib.Core.List.{List, ◌++◌}
-use Prim.Native.Nat.{ℕ, zero, suc, ◌+◌, ◌-◌, ◌/◌, ◌%◌, ◌^◌, ◌≤◌, ◌<◌}
+use Prim.Native.Nat.{ℕ, zero, suc, ◌+◌, ◌-◌, ◌*◌, ◌/◌, ◌%◌, ◌^◌, ◌≤◌, ◌<◌}
 use native.Mathlib.Nat.{lt_irrefl}
 use native.Mathlib.Omega.{arith}
 use lib.Dec.{ltb}
@@ -53,25 +53,11 @@ unfolding width_up_to
 width_most zero n = omega arith
 width_most (suc limit) n = either_le (ltb n 10) 1 (suc (width_up_to limit (n / 10))) (suc limit) (omega arith) (omega (arith, width_most limit (n / 10)))
 
--- what holds while digits are counted: k of them, the last of which is the rest's last, and at most `left` more
-pub record Counting (n rest k : ℕ) : Type 0 where
-  pub left : ℕ
-  pub room : k + left ≡ most_digits
-  pub small : rest < 10 ^ suc left
-  pub total : width n + 1 ≡ k + width_up_to (suc left) rest
-
-pub count_turn : (n rest k : ℕ) → Counting n rest k → 10 ≤ rest → Counting n (rest / 10) (k + 1)
-count_turn n rest k c h = go c.left c.room c.small c.total
-  where
-    go : (f : ℕ) → k + f ≡ most_digits → rest < 10 ^ suc f → width n + 1 ≡ k + width_up_to (suc f) rest → Counting n (rest / 10) (k + 1)
-    go zero r s t = absurd (lt_irrefl 0 (omega arith))
-    go (suc g) r s t =
-        record {
-          left = g;
-          room = omega arith;
-          small = omega arith;
-          total = omega (arith, width_more (suc g) rest h);
-        }
+-- a number between two powers of ten, the lower of them the kth, has k digits and one more
+pub width_log : (limit n k : ℕ) → k < limit → 10 ^ k ≤ n → n < 10 * 10 ^ k → width_up_to limit n ≡ k + 1
+width_log zero n k l f g = absurd (omega arith)
+width_log (suc limit) n zero l f g = width_one limit n (omega arith)
+width_log (suc limit) n (suc k) l f g = rw (width_more limit n (omega arith), width_log limit (n / 10) k (omega arith) (omega arith) (omega arith)) (omega arith)
 
 -- ---- the field of decimal digits
 

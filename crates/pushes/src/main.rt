@@ -2,7 +2,9 @@
 // functions. A line goes by its first letter, and its numbers stand behind its first word. tests/pushes.py writes the lines and says what each asks.
 #![tactic(auto)]
 
-use batch::line::{number, until};
+ghost use Rattle.std.specs.Prelude.{◌≤◌};
+
+use batch::line::number;
 use bridge::{PARTS, shapes};
 use layout::{IDS_END, SLOTS};
 use std::io;
@@ -26,60 +28,39 @@ struct Now {
     values: usize,
 }
 
-// What is told: 0 or a refusal's number, and six numbers.
+// What is told: 0 or a refusal's number, and six numbers, as C is told.
 #[derive(Clone, Copy)]
 struct Told {
     code: u64,
     parts: [u64; PARTS],
 }
 
-fn put<W: Write>(out: &mut W, words: &[u8]) -> io::Result<()> {
-    out.write_all(words)
-}
-
 // Prints a number after a blank: an id by its digits, a value by its bits.
 fn put_number<W: Write>(out: &mut W, n: u64, is_id: bool) -> io::Result<()> {
-    put(out, b" ")?;
     if is_id {
-        let digits = print::decimal(n);
-        let bytes = digits.bytes;
-        let len = digits.len;
-        put(out, &bytes[..len])
+        write!(out, " {n}")
     } else {
-        let digits = print::hex(n);
-        put(out, &digits)
+        write!(out, " {n:016x}")
     }
 }
 
-// Prints the first two, three or six numbers.
-fn put_parts<W: Write>(
-    out: &mut W,
-    parts: [u64; PARTS],
-    count: usize,
-    are_ids: bool,
-) -> io::Result<()> {
-    put_number(out, parts[0], are_ids)?;
-    put_number(out, parts[1], are_ids)?;
-    if 2 < count {
-        put_number(out, parts[2], are_ids)?;
+// Prints numbers.
+fn put_parts<W: Write>(out: &mut W, parts: &[u64], are_ids: bool) -> io::Result<()> {
+    for part in parts {
+        put_number(out, *part, are_ids)?;
     }
-    if 3 < count {
-        put_number(out, parts[3], are_ids)?;
-        put_number(out, parts[4], are_ids)?;
-        put_number(out, parts[5], are_ids)?;
-    }
-    put(out, b"\n")
+    out.write_all(b"\n")
 }
 
 // Prints a refusal's number and place.
 fn put_refusal<W: Write>(out: &mut W, number: u64, place: u64) -> io::Result<()> {
-    put(out, b" refused")?;
+    out.write_all(b" refused")?;
     put_number(out, number, true)?;
     put_number(out, place, true)?;
-    put(out, b"\n")
+    out.write_all(b"\n")
 }
 
-// Prints what a lookup or a readout tells, under its name.
+// Prints what a lookup or a readout tells, under its name: a refusal, or so many of the numbers.
 fn put_told<W: Write>(
     out: &mut W,
     name: &[u8],
@@ -87,12 +68,14 @@ fn put_told<W: Write>(
     parts: [u64; PARTS],
     count: usize,
     are_ids: bool,
-) -> io::Result<()> {
-    put(out, name)?;
+) -> io::Result<()>
+    requires { count ≤ 6 }
+{
+    out.write_all(name)?;
     if code != 0 {
         return put_refusal(out, code, parts[0]);
     }
-    put_parts(out, parts, count, are_ids)
+    put_parts(out, &parts[..count], are_ids)
 }
 
 // Prints the counts and the stage.
@@ -101,20 +84,20 @@ fn put_layout<W: Write>(out: &mut W, parts: [u64; PARTS]) -> io::Result<()> {
     put_number(out, parts[1], true)?;
     put_number(out, parts[2], true)?;
     match parts[3] {
-        0 => put(out, b" points"),
-        1 => put(out, b" circles"),
-        2 => put(out, b" arcs"),
-        _ => put(out, b" done"),
+        0 => out.write_all(b" points"),
+        1 => out.write_all(b" circles"),
+        2 => out.write_all(b" arcs"),
+        _ => out.write_all(b" done"),
     }
 }
 
 // Prints what a push or `done` tells; after a push the next id too.
 fn put_step<W: Write>(out: &mut W, letter: u8, t: Told) -> io::Result<()> {
     match letter {
-        b'P' => put(out, b"point")?,
-        b'C' => put(out, b"circle")?,
-        b'A' => put(out, b"arc")?,
-        _ => put(out, b"done")?,
+        b'P' => out.write_all(b"point")?,
+        b'C' => out.write_all(b"circle")?,
+        b'A' => out.write_all(b"arc")?,
+        _ => out.write_all(b"done")?,
     }
     let parts = t.parts;
     if t.code != 0 {
@@ -124,58 +107,40 @@ fn put_step<W: Write>(out: &mut W, letter: u8, t: Told) -> io::Result<()> {
     if letter != b'D' {
         put_number(out, parts[4], true)?;
     }
-    put(out, b"\n")
+    out.write_all(b"\n")
 }
 
 // Prints all ids.
 fn put_ids<W: Write>(out: &mut W, ids: &[u32]) -> io::Result<()> {
-    put(out, b"ids")?;
-    let mut i = 0;
-    while i < ids.len() {
-        put_id(out, ids[i])?;
-        i += 1;
+    out.write_all(b"ids")?;
+    for id in ids {
+        put_number(out, *id as u64, true)?;
     }
-    put(out, b"\n")
-}
-
-fn put_id<W: Write>(out: &mut W, id: u32) -> io::Result<()> {
-    put_number(out, id as u64, true)
+    out.write_all(b"\n")
 }
 
 // Prints all values.
 fn put_values<W: Write>(out: &mut W, values: &[f64]) -> io::Result<()> {
-    put(out, b"values")?;
-    let mut i = 0;
-    while i < values.len() {
-        put_number(out, bits::to_bits(values[i]), false)?;
-        i += 1;
+    out.write_all(b"values")?;
+    for value in values {
+        put_number(out, bits::to_bits(*value), false)?;
     }
-    put(out, b"\n")
+    out.write_all(b"\n")
 }
 
 // Prints how many ids rise by one from a first one.
 fn put_rising<W: Write>(out: &mut W, ids: &[u32], first: u64) -> io::Result<()> {
-    put(out, b"rising")?;
+    out.write_all(b"rising")?;
     put_number(out, rising(ids, first), true)?;
-    put(out, b"\n")
+    out.write_all(b"\n")
 }
 
 // How many ids rise by one from a first one.
 fn rising(ids: &[u32], first: u64) -> u64 {
-    let mut id = first;
-    let mut i = 0;
-    while i < ids.len() {
-        if wide(ids[i]) != id {
-            return i as u64;
-        }
-        id = id.wrapping_add(1);
-        i += 1;
-    }
-    i as u64
-}
-
-fn wide(id: u32) -> u64 {
-    id as u64
+    ids.iter()
+        .enumerate()
+        .take_while(|(i, id)| **id as u64 == first.wrapping_add(*i as u64))
+        .count() as u64
 }
 
 // Looks up and reads out the shapes with a number, and prints the answers.
@@ -185,9 +150,9 @@ fn look<W: Write>(out: &mut W, now: Now, ids: &[u32], values: &[f64], i: usize) 
     let a = now.arcs;
     let s = now.stage;
     let mut parts = [0u64; PARTS];
-    put(out, b"number")?;
+    out.write_all(b"number")?;
     put_number(out, i as u64, true)?;
-    put(out, b"\n")?;
+    out.write_all(b"\n")?;
     let code = shapes::hunposeto_point_ids(p, c, a, s, ids, i, &mut parts);
     put_told(out, b"point_ids", code, parts, 2, true)?;
     let code = shapes::hunposeto_circle_ids(p, c, a, s, ids, i, &mut parts);
@@ -238,23 +203,18 @@ fn after(letter: u8, now: Now, t: Told) -> Now {
         id(parts[4])
     };
     Now {
-        points: count(parts[0]),
-        circles: count(parts[1]),
-        arcs: count(parts[2]),
-        stage: count(parts[3]),
+        points: parts[0] as usize,
+        circles: parts[1] as usize,
+        arcs: parts[2] as usize,
+        stage: parts[3] as usize,
         next,
-        ids: now.ids,
-        values: now.values,
+        ..now
     }
 }
 
-// A number as an id, and as a count.
+// A number as an id.
 fn id(n: u64) -> u32 {
     (n % IDS) as u32
-}
-
-fn count(n: u64) -> usize {
-    n as usize
 }
 
 // Steps, and steps so many times more, each time with components larger by one; prints the last answer.
@@ -266,26 +226,23 @@ fn steps<W: Write>(
     values: &mut [f64],
 ) -> io::Result<Now> {
     let letter = text::byte_at(line, 0);
-    let mut now = now;
     let mut v = std::num::nearest_u64_to_f64(number(line, 1));
-    let mut left = number(line, 2) % IDS + 1;
-    while 0 < left {
-        let t = step(letter, now, ids, values, v);
-        now = after(letter, now, t);
-        if left == 1 {
-            put_step(out, letter, t)?;
-        }
+    let mut told = step(letter, now, ids, values, v);
+    let mut now = after(letter, now, told);
+    for _ in 0..number(line, 2) % IDS {
         v += 1.0;
-        left -= 1;
+        told = step(letter, now, ids, values, v);
+        now = after(letter, now, told);
     }
+    put_step(out, letter, told)?;
     Ok(now)
 }
 
 // Prints what stands behind `SAY` and a blank.
 fn say<W: Write>(out: &mut W, line: &[u8]) -> io::Result<()> {
     if 4 <= line.len() {
-        put(out, &line[4..])?;
-        put(out, b"\n")?;
+        out.write_all(&line[4..])?;
+        out.write_all(b"\n")?;
     }
     Ok(())
 }
@@ -295,15 +252,15 @@ fn given(line: &[u8], now: Now) -> Now {
     let mut then = now;
     match text::byte_at(line, 0) {
         b'L' => {
-            then.points = count(number(line, 1));
-            then.circles = count(number(line, 2));
-            then.arcs = count(number(line, 3));
-            then.stage = count(number(line, 4));
+            then.points = number(line, 1) as usize;
+            then.circles = number(line, 2) as usize;
+            then.arcs = number(line, 3) as usize;
+            then.stage = number(line, 4) as usize;
         }
         b'N' => then.next = id(number(line, 1)),
         b'R' => {
-            then.ids = count(number(line, 1));
-            then.values = count(number(line, 2));
+            then.ids = number(line, 1) as usize;
+            then.values = number(line, 2) as usize;
         }
         _ => {}
     }
@@ -321,7 +278,7 @@ fn answer<W: Write>(
     match text::byte_at(line, 0) {
         b'P' | b'C' | b'A' | b'D' => return steps(out, line, now, ids, values),
         b'S' => say(out, line)?,
-        b'F' => look(out, now, ids, values, count(number(line, 1)))?,
+        b'F' => look(out, now, ids, values, number(line, 1) as usize)?,
         b'I' => put_ids(out, ids)?,
         b'V' => put_values(out, values)?,
         b'U' => put_rising(out, ids, number(line, 1))?,
@@ -365,11 +322,8 @@ fn answer_all<W: Write>(
         ids: 0,
         values: 0,
     };
-    let mut at = 0;
-    while at < text.len() {
-        let end = until(text, at, b'\n');
-        now = answer_in(out, &text[at..end], now, ids, values)?;
-        at = end + 1;
+    for line in text.split(|b| *b == b'\n') {
+        now = answer_in(out, line, now, ids, values)?;
     }
     Ok(())
 }

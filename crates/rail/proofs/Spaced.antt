@@ -1,12 +1,11 @@
 -- The laws of words parted by blanks. Assumes nothing.
 use mathlib.Core.Path.{◌≡◌, refl}
-use mathlib.Core.Bool.{Bool}
 use mathlib.Core.List.{List, [], ◌∷◌, ◌++◌, append_assoc, append-nil}
 use Prim.Native.Nat.{ℕ}
 use Rattle.rail.specs.Words.{blank, spaced}
-use Rattle.rail.specs.Rail.{Prints}
-use Rattle.rail.specs.Steps.{Adds}
-use Rattle.rail.specs.declared.Place.{Place}
+use Rattle.rail.specs.Rail.{Printed}
+use Rattle.rail.specs.Steps.{Added}
+use Rattle.rail.specs.declared.Rail.{Rail}
 use Rattle.rail.proofs.Added.{added, both}
 
 -- words behind words
@@ -16,6 +15,6 @@ spaced_append [] b = refl
 spaced_append (w ∷ a) b = rw (spaced_append a b, append_assoc)
 
 -- a blank and a word added are the word with its blank
-pub word_added : {v : Bool} {d d₁ d₂ w : List ℕ} {p q r : Place} → Prints v d p (blank ∷ []) q d₁ → Prints v d₁ q w r d₂ → Adds v d p (spaced (w ∷ [])) r d₂
+pub word_added : {r s t : Rail} {w : List ℕ} → Printed r (blank ∷ []) s → Printed s w t → Added r (spaced (w ∷ [])) t
 unfolding spaced
 word_added x y = rw append-nil (both (added x) (added y))

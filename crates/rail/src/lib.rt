@@ -1,87 +1,111 @@
-// The writing rail: bytes, words and digits put into a lent buffer where writing stands. Where there is no room, that is told and handed on, and the
-// buffer stays as it was. With `write` false the place moves alone, which measures what is due.
+// The writing rail: bytes, words and digits put into a lent buffer where writing stands. What is added is added whole: where there is no room
+// for all of it, that is told and handed on, and the buffer stays as it was. A rail that does not write moves its place alone, which measures
+// what is due.
 #![tactic(auto)]
 
-ghost use Rattle.std.specs.Prelude.{◌≡◌, [], ◌∷◌};
+ghost use Rattle.std.specs.Prelude.{◌≡◌, [], ◌∷◌, List, ℕ};
 ghost use Rattle.print.specs.Print.{decimal_of, hex_of};
 ghost use Rattle.rail.specs.Words.{spaced};
-ghost use Rattle.rail.specs.Rail.{next_place, Prints};
+ghost use Rattle.rail.specs.Rail.{next_place, Printed};
+ghost use Rattle.rail.specs.Steps.{Added};
 
-// Where writing stands: the place of the next byte, or full, where there was no room.
-#[derive(Clone, Copy)]
-pub enum Place {
-    At(usize),
-    Full,
-}
-
-// Where writing stands after so many bytes, in a buffer of a size.
-pub fn moved(size: usize, p: Place, len: usize) -> Place
+// Where writing stands after so many bytes, in a buffer of a size: the place of the next byte, or none, where there was no room.
+pub fn moved(size: usize, p: Option<usize>, len: usize) -> Option<usize>
     ensures { result ≡ next_place size p len }
 {
-    let Place::At(n) = p else {
-        return p;
-    };
-    if size < n {
-        return Place::Full;
+    let n = p?;
+    if size < n || size - n < len {
+        return None;
     }
-    if size - n < len {
-        return Place::Full;
+    Some(n + len)
+}
+
+// A rail over a lent buffer: where writing stands, and whether bytes are written or measured alone.
+#[derive(Drop)]
+pub struct Rail<'a> {
+    pub buf: &'a mut [u8],
+    pub write: bool,
+    pub place: Option<usize>,
+}
+
+// What is printed whole, or not at all: its bytes, which may be added in several steps.
+pub trait Piece {
+    ghost bytes: { Self → List ℕ };
+
+    // Adds its bytes, as far as there is room.
+    fn add(&self, rail: &mut Rail)
+        ensures { Added rail.old (bytes self.now) rail.new };
+}
+
+// A blank and a word.
+#[derive(Drop)]
+struct Word<'a>(&'a [u8]);
+
+impl Piece for Word<'_> {
+    ghost bytes = { λ w. spaced (w.0.now ∷ []) };
+
+    fn add(&self, rail: &mut Rail) {
+        rail.add(b" ");
+        rail.add(self.0);
     }
-    Place::At(n + len)
 }
 
-// Adds bytes.
-pub fn add(buf: &mut [u8], write: bool, p: Place, src: &[u8]) -> Place
-    ensures { Prints write buf.old p src.now result buf.new }
-{
-    let r = moved(buf.len(), p, src.len());
-    let Place::At(n) = p else {
-        return r;
-    };
-    if write {
-        store::put(buf, n, src);
-        return r;
+impl Rail<'_> {
+    // Adds bytes.
+    pub fn add(&mut self, src: &[u8])
+        ensures { Printed self.old src.now self.new }
+    {
+        let from = self.place;
+        self.place = moved(self.buf.len(), from, src.len());
+        if let Some(n) = from
+            && self.write
+        {
+            store::put(self.buf, n, src);
+        }
     }
-    r
-}
 
-// Adds a blank and a word, where there is room for both.
-pub fn word(buf: &mut [u8], write: bool, p: Place, src: &[u8]) -> Place
-    ensures { Prints write buf.old p (spaced (src.now ∷ [])) result buf.new }
-{
-    let m = add(buf, false, p, b" ");
-    let m = add(buf, false, m, src);
-    let Place::At(_) = m else {
-        return m;
-    };
-    let p = add(buf, write, p, b" ");
-    add(buf, write, p, src)
-}
+    // Adds a piece, which is measured first, and added where there is room for all of it.
+    pub fn whole<P: Piece>(&mut self, piece: &P)
+        ensures { Printed self.old (P.bytes piece.now) self.new }
+    {
+        let from = self.place;
+        let write = self.write;
+        self.write = false;
+        piece.add(self);
+        self.write = write;
+        if self.place.is_some() {
+            self.place = from;
+            piece.add(self);
+        }
+    }
 
-// Adds the decimal digits of a number.
-pub fn decimal(buf: &mut [u8], write: bool, p: Place, n: u64) -> Place
-    ensures { Prints write buf.old p (decimal_of n) result buf.new }
-{
-    let digits = print::decimal(n);
-    let bytes = digits.bytes;
-    let len = digits.len;
-    add(buf, write, p, &bytes[..len])
-}
+    // Adds a blank and a word.
+    pub fn word(&mut self, src: &[u8])
+        ensures { Printed self.old (spaced (src.now ∷ [])) self.new }
+    {
+        self.whole(&Word(src));
+    }
 
-// Adds a blank and the decimal digits of a number.
-pub fn decimal_word(buf: &mut [u8], write: bool, p: Place, n: u64) -> Place
-    ensures { Prints write buf.old p (spaced (decimal_of n ∷ [])) result buf.new }
-{
-    let digits = print::decimal(n);
-    let bytes = digits.bytes;
-    let len = digits.len;
-    word(buf, write, p, &bytes[..len])
-}
+    // Adds the decimal digits of a number.
+    #[tactic(auto, using(print::proofs::Laws::field_first))]
+    pub fn decimal(&mut self, n: u64)
+        ensures { Printed self.old (decimal_of n) self.new }
+    {
+        self.add(print::decimal(n).as_slice());
+    }
 
-// Adds a blank and the hex digits of a number.
-pub fn hex_word(buf: &mut [u8], write: bool, p: Place, n: u64) -> Place
-    ensures { Prints write buf.old p (spaced (hex_of n ∷ [])) result buf.new }
-{
-    let digits = print::hex(n);
-    word(buf, write, p, &digits)
+    // Adds a blank and the decimal digits of a number.
+    #[tactic(auto, using(print::proofs::Laws::field_first))]
+    pub fn decimal_word(&mut self, n: u64)
+        ensures { Printed self.old (spaced (decimal_of n ∷ [])) self.new }
+    {
+        self.word(print::decimal(n).as_slice());
+    }
+
+    // Adds a blank and the hex digits of a number.
+    pub fn hex_word(&mut self, n: u64)
+        ensures { Printed self.old (spaced (hex_of n ∷ [])) self.new }
+    {
+        self.word(&print::hex(n));
+    }
 }

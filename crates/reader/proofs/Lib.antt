@@ -1,3 +1,4 @@
+pub mod High
 pub mod Sections
 pub mod Ends
 pub mod Only

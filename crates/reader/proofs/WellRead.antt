@@ -1,5 +1,6 @@
 -- The records that a good reading writes are well formed, so that 30 is told of none of them; their entries are the records that were
 -- read, with their labels as text. Assumes nothing.
+use Rattle.std.specs.Prelude.{Result}
 use mathlib.Core.Path.{◌≡◌, sym, ap, ◌∙◌}
 use mathlib.Core.Bool.{Bool}
 use mathlib.Core.List.{List, map}
@@ -9,6 +10,7 @@ use lib.Dec.{ltb}
 use lib.ListN.{length, get_or, take, drop, length-append, length-map, get_or-map}
 use lib.Seq.{take_at, ext_get_or}
 use borrow.Author.Tests.{ltb-false, leb-true, leb-false, le-leb, lt-leb, lt-ltb}
+use Rattle.refusal.specs.declared.Refusal.{Refusal}
 use Rattle.refusal.specs.First.{Nowhere}
 use Rattle.text.specs.declared.Stand.TheVariants.{At}
 use Rattle.record.specs.Record.{record_bytes, most_records, longest_text, first_guess, encode_all}
@@ -22,8 +24,7 @@ use Rattle.record.proofs.WellFormed.{well_formed_iff}
 use Rattle.record.proofs.Written.{good_written, entry_decoded}
 use Rattle.text.proofs.Laws.{Reached, here, cond_of}
 use Rattle.reader.specs.declared.Reading.{Reading}
-use Rattle.reader.specs.declared.Reading.TheVariants as reading
-use Rattle.reader.specs.Page.{problem_of, high_at, reading_of, records_in, lines_of, buffer_after, Reads}
+use Rattle.reader.specs.Page.{problem_of, high_at, reading_of, records_in, lines_of, buffer_after, Reads, good_reading}
 use Rattle.reader.proofs.Ends.{not_good, good_says}
 use Rattle.reader.proofs.Written.{written_fits, read_back}
 use Rattle.reader.proofs.SoundPage.{some_of_each, record_at}
@@ -83,11 +84,11 @@ pub record GoodPage (s : List ℕ) (i g end : ℕ) : Type 0 where
 abbrev pub written_in : ℕ → ℕ → List ℕ → List ℕ
 written_in i g d = take (record_bytes * (i + g)) d
 
-module _ (whole : Bool) (s d : List ℕ) (i g end : ℕ) (d' : List ℕ) (r : Reads whole s d (reading.Good i g end) d') where
+module _ (whole : Bool) (s d : List ℕ) (i g end : ℕ) (d' : List ℕ) (r : Reads whole s d (good_reading i g end) d') where
   pub page_read : GoodPage s i g end
   unfolding reading_of
   page_read =
-      let Q : Reading → Type 0 = λ a. a ≡ reading.Good i g end → GoodPage s i g end in
+      let Q : Result Reading Refusal → Type 0 = λ a. a ≡ good_reading i g end → GoodPage s i g end in
       cond_of Q (ltb longest_text (length s)) _ _ (λ e. not_good)
       (λ e. cond_of Q (ltb (high_at s) (length s)) _ _ (λ f. not_good)
       (λ f k.

@@ -1,5 +1,6 @@
 -- A page (docs/FORMAT.md, "Problem"; `parse_problem` of parser.rs): its headings and sections, what is told of it, and what a good reading writes.
-use Rattle.std.specs.Prelude.{◌≡◌, Bool, true, false, cond, ◌&&◌, List, ◌++◌, map, ℕ, ◌+◌, ◌*◌, ltb, length, drop}
+use Rattle.std.specs.Prelude.{◌≡◌, Bool, true, false, cond, ◌&&◌, List, ◌++◌, map, ℕ, ◌+◌, ◌*◌, ltb, length, drop, Result, Err, Ok}
+use Rattle.refusal.specs.declared.Refusal.{Refusal}
 use Rattle.ground.specs.Words.{bytes}
 use Rattle.refusal.specs.Refusal.{refusal}
 use Rattle.text.specs.Text.{or_stand, due, run_to, ws_on, word_on, byte_on, newline_on}
@@ -10,7 +11,6 @@ use Rattle.record.specs.declared.Record.{Record}
 use Rattle.record.specs.Entry.{Entry, entry_of}
 use Rattle.forms.specs.Section.{lines_on}
 use Rattle.reader.specs.declared.Reading.{Reading}
-use Rattle.reader.specs.declared.Reading.TheVariants as reading
 
 -- ---- the page
 
@@ -39,9 +39,13 @@ problem_of s =
 
 -- ---- what is told, in docs/FORMAT.md's order
 
+-- a page was read: how many instructions and guesses it has, and where reading stopped
+abbrev pub good_reading : ℕ → ℕ → ℕ → Result Reading Refusal
+good_reading instructions guesses end = Ok (record { instructions = instructions; guesses = guesses; end = end })
+
 -- a refusal by its number at a place
-abbrev pub refused_by : ℕ → ℕ → Reading
-refused_by number place = reading.Refused (refusal number place)
+abbrev pub refused_by : ℕ → ℕ → Result Reading Refusal
+refused_by number place = Err (refusal number place)
 
 -- the place of the first byte of 128 or more, or the text's end
 abbrev pub high_at : List ℕ → ℕ
@@ -49,25 +53,25 @@ high_at s = run_to (λ b. ltb b 128) s 0
 
 -- a page of so many instructions and guesses, read to a place of a text, for a buffer of so many bytes: 10 where the whole text is
 -- due and text is left, then 11, then 12
-abbrev pub told_of : Bool → ℕ → ℕ → ℕ → ℕ → ℕ → Reading
+abbrev pub told_of : Bool → ℕ → ℕ → ℕ → ℕ → ℕ → Result Reading Refusal
 told_of whole size instructions guesses bytes end =
     cond (whole && ltb end size) (refused_by 10 end)
     (cond (ltb most_records (instructions + guesses)) (refused_by 11 0)
     (cond (ltb bytes (record_bytes * (instructions + guesses))) (refused_by 12 0)
-    (reading.Good instructions guesses end)))
+    (good_reading instructions guesses end)))
 
 -- where reading stands in the end; it never ends with nothing read (`never_nothing` in proofs/Never)
-abbrev pub ended_of : Bool → ℕ → ℕ → ℕ → ℕ → Stand → Reading
+abbrev pub ended_of : Bool → ℕ → ℕ → ℕ → ℕ → Stand → Result Reading Refusal
 ended_of whole size instructions guesses bytes (At end) = told_of whole size instructions guesses bytes end
 ended_of whole size instructions guesses bytes Nothing = refused_by 3 0
-ended_of whole size instructions guesses bytes (Refused why) = reading.Refused why
+ended_of whole size instructions guesses bytes (Refused why) = Err why
 
 -- a page of a text
-abbrev pub page_of : Bool → List ℕ → Problem → ℕ → Reading
+abbrev pub page_of : Bool → List ℕ → Problem → ℕ → Result Reading Refusal
 page_of whole s p bytes = ended_of whole (length s) (length p.instructions) (length p.guesses) bytes p.then
 
 -- 1, 2, then 3 to 9, then 10 to 12, for a buffer of so many bytes
-unfoldable pub reading_of : Bool → List ℕ → ℕ → Reading
+unfoldable pub reading_of : Bool → List ℕ → ℕ → Result Reading Refusal
 reading_of whole s bytes =
     cond (ltb longest_text (length s)) (refused_by 1 0)
     (cond (ltb (high_at s) (length s)) (refused_by 2 (high_at s))
@@ -84,14 +88,14 @@ abbrev pub lines_of : List ℕ → List Entry
 lines_of s = map (entry_of s) (records_in s)
 
 -- a good reading writes its records and leaves what lies past them; a refusal leaves the buffer as it was
-abbrev pub written_by : Reading → List Record → List ℕ → List ℕ
-written_by (reading.Good i g end) rs d = encode_all rs ++ drop (record_bytes * length rs) d
-written_by (reading.Refused why) rs d = d
+abbrev pub written_by : Result Reading Refusal → List Record → List ℕ → List ℕ
+written_by (Ok reading) rs d = encode_all rs ++ drop (record_bytes * length rs) d
+written_by (Err why) rs d = d
 
 unfoldable pub buffer_after : Bool → List ℕ → List ℕ → List ℕ
 buffer_after whole s d = written_by (reading_of whole s (length d)) (records_in s) d
 
 -- the promise of a reading: the answer, and the buffer's later contents
-pub record Reads (whole : Bool) (s d : List ℕ) (answer : Reading) (d' : List ℕ) : Type 0 where
+pub record Reads (whole : Bool) (s d : List ℕ) (answer : Result Reading Refusal) (d' : List ℕ) : Type 0 where
   pub told : answer ≡ reading_of whole s (length d)
   pub buffer : d' ≡ buffer_after whole s d

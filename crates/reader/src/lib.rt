@@ -8,26 +8,23 @@ ghost use Rattle.reader.specs.Page.{Reads};
 
 use refusal::Refusal;
 
-// What reading a page tells: how many instructions and guesses its records are and where reading stopped, or a refusal.
+// What a page was read to: how many instructions and guesses its records are, and where reading stopped.
 #[derive(Clone, Copy)]
-pub enum Reading {
-    Good {
-        instructions: usize,
-        guesses: usize,
-        end: usize,
-    },
-    Refused(Refusal),
+pub struct Reading {
+    pub instructions: usize,
+    pub guesses: usize,
+    pub end: usize,
 }
 
 // Reads a page, which may leave text over, and writes its records.
-pub fn parse_problem(text: &[u8], records: &mut [u8]) -> Reading
+pub fn parse_problem(text: &[u8], records: &mut [u8]) -> Result<Reading, Refusal>
     ensures { Reads false text.now records.old result records.new }
 {
     page::read(text, records, false)
 }
 
 // The same, where the page has to be the whole text.
-pub fn parse_whole(text: &[u8], records: &mut [u8]) -> Reading
+pub fn parse_whole(text: &[u8], records: &mut [u8]) -> Result<Reading, Refusal>
     ensures { Reads true text.now records.old result records.new }
 {
     page::read(text, records, true)

@@ -1,4 +1,6 @@
 -- Lists of records with what is told of them: one claim, which the definitions compute. Assumes nothing.
+use Rattle.refusal.specs.declared.Refusal.{Refusal}
+use Rattle.std.specs.Prelude.{Result}
 use mathlib.Core.Path.{◌≡◌, refl}
 use mathlib.Core.Option.{Option, none, some}
 use mathlib.Core.List.{List, [], ◌∷◌, ◌++◌, map}
@@ -8,7 +10,6 @@ use Rattle.refusal.specs.First.{lowest}
 use Rattle.text.specs.Text.{run_to, word_at, byte_on, label_at, label_on, suffixed_on}
 use Rattle.record.specs.declared.View.{View}
 use Rattle.record.specs.declared.Record.{Record}
-use Rattle.record.specs.declared.formed.Formed.{Formed}
 use Rattle.record.specs.Record.{encode, encode_all, one_label}
 use Rattle.record.specs.Decode.{decode}
 use Rattle.record.specs.Entry.{entry_of}
@@ -43,10 +44,10 @@ angle third =
 -- ---- lists
 
 -- what is told of records with some bytes behind them
-abbrev told : List Record → List ℕ → Formed
+abbrev told : List Record → List ℕ → Result Unit Refusal
 told rs more = formed_of (entries text (encode_all rs ++ more))
 
-abbrev answers : List Formed
+abbrev answers : List (Result Unit Refusal)
 answers =
     told (point ∷ guess ∷ []) []
     -- a dotted label in a guess, in a declaration, and with two points

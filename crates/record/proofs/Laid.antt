@@ -1,30 +1,31 @@
 -- A list that is laid out is well formed but, perhaps, for the spelling of labels that no declaration has, and its test says so.
 -- Assumes nothing.
+use Rattle.refusal.specs.declared.Refusal.{Refusal}
+use Rattle.std.specs.Prelude.{Result, Ok, Err}
 use mathlib.Core.Path.{◌≡◌, refl, ap}
 use mathlib.Core.Bool.{true, false}
 use mathlib.Core.List.{List}
 use Prim.Native.Nat.{ℕ}
+use Rattle.std.specs.Result.{is_ok}
 use Rattle.refusal.specs.First.{EachBelow}
 use Rattle.refusal.proofs.Says.{Says}
-use Rattle.record.specs.declared.formed.Formed.{Formed}
-use Rattle.record.specs.declared.formed.Formed.TheVariants as formed
 use Rattle.record.specs.Decode.{count_of, record_of}
 use Rattle.record.specs.Formed.{WellFormed}
-use Rattle.record.specs.Laid.{formed_by, LaidOut, passes, laid_out}
+use Rattle.record.specs.Laid.{formed_by, LaidOut, laid_out}
 use Rattle.record.proofs.Records.{AllSpelled, good_laid, laid_good}
 use Rattle.record.proofs.Passed.{listed_iff}
 
 -- nothing is told of what passes
-passes_so : (f : Formed) → passes f ≡ true → f ≡ formed.WellFormed
-passes_so formed.WellFormed e = refl
-passes_so (formed.Refused why) e = cc
+passes_so : (f : Result Unit Refusal) → is_ok f ≡ true → f ≡ Ok tt
+passes_so (Ok tt) e = refl
+passes_so (Err why) e = cc
 
 module _ (text bs : List ℕ) where
   pub says_laid_out : Says (laid_out text bs) (LaidOut text bs)
   unfolding laid_out
   says_laid_out =
       let w = listed_iff false text bs in
-      record { so = λ e. w.0 (passes_so (formed_by false text bs) e); back = λ l. ap passes (w.1 l) }
+      record { so = λ e. w.0 (passes_so (formed_by false text bs) e); back = λ l. ap is_ok (w.1 l) }
 
   -- ---- a list that is laid out, and one that is well formed
 

@@ -1,5 +1,6 @@
 -- A list by the kinds of its records: it is at fault nowhere exactly if it is within its limits, of whole records, each as it should, and
 -- instructions stand before guesses; and what a loop over the records has found. Assumes nothing.
+use Rattle.std.specs.Prelude.{Ok, Err}
 use mathlib.Core.Path.{◌≡◌, refl, sym, ap, ◌∙◌}
 use mathlib.Core.Logic.{◌⊎◌, inl, inr, ◌↔◌, ⊎_elim}
 use mathlib.Core.Bool.{Bool, true, false, not, ◌&&◌, ◌||◌}
@@ -15,7 +16,6 @@ use borrow.Author.Tests.{lt-ltb, le-ltb}
 use Rattle.refusal.specs.First.{SomeBelow, EachBelow}
 use Rattle.refusal.proofs.Says.{Says, stable, below_suc, says_not, says_and, says_or, says_cond, says_eq, says_le, says_lt, says_any}
 use Rattle.refusal.proofs.Search.{stops_here, goes_through}
-use Rattle.record.specs.declared.formed.Formed.TheVariants as formed
 use Rattle.record.specs.Record.{record_bytes, most_records, longest_text, first_guess}
 use Rattle.record.specs.Decode.{is_guess, decode, count_of, record_of}
 use Rattle.record.specs.Formed.{ListOf, malformed_at, misplaced, verdict}
@@ -67,7 +67,7 @@ module _ (full : Bool) (text bs : List ℕ) where
       let end : (i < count_of bs → ⊥) → i ≡ count_of bs = λ f. omega (arith, f) in
       ((l.short, l.few), (λ b. ⊎_elim (λ f. f (l.each i b)) (in_place bs kind_in is l.parted i b), λ f. (l.whole, rw (end f) (guess_in_lem bs kind_in is l.parted))))
 
-  pub listed_iff : (formed_by full text bs ≡ formed.WellFormed) ↔ ListOf (RecordBy full text) text bs
+  pub listed_iff : (formed_by full text bs ≡ Ok tt) ↔ ListOf (RecordBy full text) text bs
   unfolding formed_by
   listed_iff =
       let w = none_told_iff _ _ (λ i. says_not (says_fine i)) (suc (count_of bs)) in
@@ -84,11 +84,11 @@ module _ (full : Bool) (text bs : List ℕ) where
   start = record { each = λ j h. absurd (not-suc-le-zero h); seen = refl }
 
   told : (i : ℕ) → i ≤ count_of bs → fine_by full text bs i ≡ false → EachBelow i (λ j. fine_by full text bs j ≡ true)
-      → formed.Refused (malformed_at i) ≡ formed_by full text bs
+      → Err (malformed_at i) ≡ formed_by full text bs
   unfolding formed_by
   told i h e f = sym (ap verdict (stops_here _ (suc (count_of bs)) i (omega (arith, h)) (ap not e) (λ j k. ap not (f j k))))
 
-  pub over : in_limits text bs ≡ false → formed.Refused (malformed_at 0) ≡ formed_by full text bs
+  pub over : in_limits text bs ≡ false → Err (malformed_at 0) ≡ formed_by full text bs
   unfolding fine_by
   over e = told 0 (omega arith) (rw e refl) (λ j h. absurd (not-suc-le-zero h))
 
@@ -99,7 +99,7 @@ module _ (full : Bool) (text bs : List ℕ) where
       unfolding fine_by
       here_is = rw (limits, lt-ltb i (count_of bs) h, k, p.seen) refl
 
-      pub fault : misplaced kind i guessed ≡ true → formed.Refused (malformed_at i) ≡ formed_by full text bs
+      pub fault : misplaced kind i guessed ≡ true → Err (malformed_at i) ≡ formed_by full text bs
       fault e = told i (omega (arith, h)) (here_is ∙ ap not e) p.each
 
       pub next : misplaced kind i guessed ≡ false → Passed (i + 1) (guessed || is_guess kind)
@@ -111,12 +111,12 @@ module _ (full : Bool) (text bs : List ℕ) where
       unfolding fine_by
       end_is = rw (limits, le-ltb i (count_of bs) (omega arith), p.seen) refl
 
-      pub end_good : eqb (length bs % record_bytes) 0 && guessed ≡ true → formed.WellFormed ≡ formed_by full text bs
+      pub end_good : eqb (length bs % record_bytes) 0 && guessed ≡ true → Ok tt ≡ formed_by full text bs
       unfolding formed_by
       end_good e =
           let each : EachBelow (suc (count_of bs)) (λ j. fine_by full text bs j ≡ true)
           = λ j h. ⊎_elim (λ q. ap (fine_by full text bs) (q ∙ sym n) ∙ end_is ∙ e) (λ l. p.each j (omega (arith, l, n))) (below_suc h) in
           sym (ap verdict (goes_through _ (suc (count_of bs)) (λ j h. ap not (each j h))))
 
-      pub end_fault : eqb (length bs % record_bytes) 0 && guessed ≡ false → formed.Refused (malformed_at (count_of bs)) ≡ formed_by full text bs
-      end_fault e = ap (λ (k : ℕ). formed.Refused (malformed_at k)) (sym n) ∙ told i (omega (arith, n)) (end_is ∙ e) p.each
+      pub end_fault : eqb (length bs % record_bytes) 0 && guessed ≡ false → Err (malformed_at (count_of bs)) ≡ formed_by full text bs
+      end_fault e = ap (λ (k : ℕ). Err (malformed_at k)) (sym n) ∙ told i (omega (arith, n)) (end_is ∙ e) p.each

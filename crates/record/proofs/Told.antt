@@ -1,5 +1,6 @@
 -- 30 is told at a place exactly if the list is at fault there and at no lower place, and a list passes exactly if it is at fault
 -- nowhere: the test of a place says its statement. Assumes nothing.
+use Rattle.std.specs.Prelude.{Ok, Err}
 use mathlib.Core.Path.{◌≡◌, refl, ap}
 use mathlib.Core.Logic.{◌⊎◌, inl, inr, ◌↔◌}
 use mathlib.Core.Bool.{Bool}
@@ -11,7 +12,6 @@ use Rattle.refusal.specs.First.{SomeBelow, Lowest, Nowhere, lowest}
 use Rattle.refusal.proofs.Says.{Says, says_and, says_or, says_not, says_iff, says_eq, says_le, says_lt, says_any}
 use Rattle.refusal.proofs.Search.{lowest_iff, none_iff}
 use Rattle.refusal.specs.declared.Refusal.{Refusal}
-use Rattle.record.specs.declared.formed.Formed.TheVariants as formed
 use Rattle.record.specs.Record.{first_guess}
 use Rattle.record.specs.Decode.{is_guess}
 use Rattle.record.specs.Entry.{Entry, entry_at}
@@ -51,10 +51,10 @@ verdict_same none none e = refl
 
 -- where a test of each place says its statement, a place is told exactly if it is the lowest, and nothing is exactly if there is none
 module _ (p : ℕ → Bool) (P : ℕ → Type 0) (s : (i : ℕ) → Says (p i) (P i)) (n : ℕ) where
-  told_iff : (i : ℕ) → (verdict (lowest n p) ≡ formed.Refused (malformed_at i)) ↔ Lowest P n i
+  told_iff : (i : ℕ) → (verdict (lowest n p) ≡ Err (malformed_at i)) ↔ Lowest P n i
   told_iff i = (λ e. (lowest_iff p P s n i).0 (verdict_same _ (some i) e), λ w. ap verdict ((lowest_iff p P s n i).1 w))
 
-  pub none_told_iff : (verdict (lowest n p) ≡ formed.WellFormed) ↔ Nowhere P n
+  pub none_told_iff : (verdict (lowest n p) ≡ Ok tt) ↔ Nowhere P n
   none_told_iff = (λ e. (none_iff p P s n).0 (verdict_same _ none e), λ w. ap verdict ((none_iff p P s n).1 w))
 
 module _ (es : List Entry) where
@@ -72,11 +72,11 @@ module _ (es : List Entry) where
       (says_and (says_eq i (length es)) (says_not (says_any _ _ says_guess i))))
 
   -- 30 is told at i exactly if the list is at fault there and at no lower place
-  pub refused_iff : (i : ℕ) → (formed_of es ≡ formed.Refused (malformed_at i)) ↔ Lowest (Malformed es) (places es) i
+  pub refused_iff : (i : ℕ) → (formed_of es ≡ Err (malformed_at i)) ↔ Lowest (Malformed es) (places es) i
   unfolding formed_of
   refused_iff = told_iff (malformed_test es) (Malformed es) says_malformed (places es)
 
   -- a list passes exactly if it is at fault nowhere
-  pub passed_iff : (formed_of es ≡ formed.WellFormed) ↔ Nowhere (Malformed es) (places es)
+  pub passed_iff : (formed_of es ≡ Ok tt) ↔ Nowhere (Malformed es) (places es)
   unfolding formed_of
   passed_iff = none_told_iff (malformed_test es) (Malformed es) says_malformed (places es)

@@ -1,11 +1,9 @@
 -- What a well formed list of records is, and where a list is not (docs/FORMAT.md, "Well formed"): its entries, in words, and as a test.
-use Rattle.std.specs.Prelude.{◌≡◌, Bool, not, ◌&&◌, ◌||◌, cond, List, [], ◌∷◌, ◌++◌, ℕ, suc, ◌%◌, ◌≤◌, ◌<◌, leb, ltb, eqb, length}
+use Rattle.std.specs.Prelude.{◌≡◌, Bool, not, ◌&&◌, ◌||◌, cond, List, [], ◌∷◌, ◌++◌, ℕ, suc, ◌%◌, ◌≤◌, ◌<◌, leb, ltb, eqb, length, Result, Ok, Err}
 use Rattle.std.proofs.Math.Option.{Option, none, some}
 use Rattle.ground.specs.Lists.{up_to}
 use Rattle.refusal.specs.First.{SomeBelow, EachBelow, any_below, lowest}
 use Rattle.refusal.specs.declared.Refusal.{Refusal}
-use Rattle.record.specs.declared.formed.Formed.{Formed}
-use Rattle.record.specs.declared.formed.Formed.TheVariants as formed
 use Rattle.record.specs.Record.{record_bytes, most_records, longest_text, first_guess}
 use Rattle.record.specs.Decode.{is_guess, decode, count_of, record_of}
 use Rattle.record.specs.Entry.{Entry, no_entry, entry_at, entry_of}
@@ -102,10 +100,10 @@ malformed_test es i =
 -- ---- what is told: the lowest place at fault
 
 -- 30 at a place, or nothing
-abbrev pub verdict : Option ℕ → Formed
-verdict (some i) = formed.Refused (malformed_at i)
-verdict none = formed.WellFormed
+abbrev pub verdict : Option ℕ → Result Unit Refusal
+verdict (some i) = Err (malformed_at i)
+verdict none = Ok tt
 
 -- what is told of a list
-unfoldable pub formed_of : List Entry → Formed
+unfoldable pub formed_of : List Entry → Result Unit Refusal
 formed_of es = verdict (lowest (places es) (malformed_test es))

@@ -1,10 +1,10 @@
 -- A list of records that is well formed but, perhaps, for the spelling of labels that no declaration has: in words, and as a test. Names
 -- are resolved of such a list. The same test, in full, is that of a well formed list (proved).
-use Rattle.std.specs.Prelude.{◌≡◌, Bool, true, false, not, ◌&&◌, ◌||◌, cond, List, ℕ, suc, ◌%◌, ◌≤◌, leb, ltb, eqb, length}
+use Rattle.refusal.specs.declared.Refusal.{Refusal}
+use Rattle.std.specs.Prelude.{◌≡◌, Bool, true, false, not, ◌&&◌, ◌||◌, cond, List, ℕ, suc, ◌%◌, ◌≤◌, leb, ltb, eqb, length, Result}
+use Rattle.std.specs.Result.{is_ok}
 use Rattle.refusal.specs.First.{any_below, all_below, lowest}
 use Rattle.record.specs.declared.Record.{Record}
-use Rattle.record.specs.declared.formed.Formed.{Formed}
-use Rattle.record.specs.declared.formed.Formed.TheVariants as formed
 use Rattle.kinds.specs.Kinds.{new_arc, kind_at, numberless, pair, Known}
 use Rattle.record.specs.Record.{record_bytes, most_records, longest_text}
 use Rattle.record.specs.Decode.{is_guess, decode, count_of, record_of}
@@ -68,14 +68,9 @@ fine_by full text bs i =
     (eqb (length bs % record_bytes) 0 && guess_by full text bs i)
 
 -- what is told of a list: the lowest place at fault
-unfoldable pub formed_by : Bool → List ℕ → List ℕ → Formed
+unfoldable pub formed_by : Bool → List ℕ → List ℕ → Result Unit Refusal
 formed_by full text bs = verdict (lowest (suc (count_of bs)) (λ i. not (fine_by full text bs i)))
-
--- nothing is told of it
-abbrev pub passes : Formed → Bool
-passes formed.WellFormed = true
-passes (formed.Refused why) = false
 
 -- a list is not at fault at any place, by the kinds of its records
 unfoldable pub laid_out : List ℕ → List ℕ → Bool
-laid_out text bs = passes (formed_by false text bs)
+laid_out text bs = is_ok (formed_by false text bs)

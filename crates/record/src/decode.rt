@@ -25,16 +25,10 @@ pub(crate) fn u64_at(b: &[u8], k: usize) -> u64
     requires { k + 7 < length b.now }
     ensures { result ≡ u64 b.now k }
 {
-    u64_of([
-        b[k],
-        b[k + 1],
-        b[k + 2],
-        b[k + 3],
-        b[k + 4],
-        b[k + 5],
-        b[k + 6],
-        b[k + 7],
-    ])
+    let end = k + 8;
+    let mut bytes = [0; 8];
+    bytes.copy_from_slice(&b[k..end]);
+    u64_of(bytes)
 }
 
 // A guess: one label and two numbers.

@@ -4,18 +4,11 @@ ghost use Rattle.record.specs.Formed.{malformed_at, entries, formed_of, misplace
 ghost use Rattle.record.specs.Laid.{formed_by, laid_out};
 
 use super::{LONGEST, MOST, SIZE, sound};
-use kinds::{KINDS, PAIR_GUESS};
+use kinds::PAIR_GUESS;
 use refusal::Refusal;
 
 // The number of the refusal.
 pub const MALFORMED: u8 = 30;
-
-// What is told of a list of records.
-#[derive(Clone, Copy)]
-pub enum Formed {
-    WellFormed,
-    Refused(Refusal),
-}
 
 // 30 at a place.
 pub fn malformed_at(place: usize) -> Refusal
@@ -39,34 +32,31 @@ fn at_fault(kind: u8, i: usize, guessed: bool) -> bool
 
 // The lowest place at which a list of records is at fault by their kinds, if there is one: in full, or but for the spelling of labels
 // that no declaration has.
-fn judged(text: &[u8], records: &[u8], full: bool) -> Formed
+fn judged(text: &[u8], records: &[u8], full: bool) -> Result<(), Refusal>
     ensures { result ≡ formed_by full text.now records.now }
 {
     let n = records.len() / SIZE;
     if !((text.len() <= LONGEST) & (n <= MOST)) {
-        return Formed::Refused(malformed_at(0));
+        return Err(malformed_at(0));
     }
-    let kinds = KINDS;
     let mut guessed = false;
-    let mut i = 0;
-    while i < n {
+    for i in 0..n {
         let at = i * SIZE;
         let end = at + SIZE;
-        let kind = sound::kind_by(&kinds, text, &records[at..end], full);
+        let kind = sound::kind_by(text, &records[at..end], full);
         if at_fault(kind, i, guessed) {
-            return Formed::Refused(malformed_at(i));
+            return Err(malformed_at(i));
         }
-        guessed = guessed | (PAIR_GUESS <= kind);
-        i += 1;
+        guessed |= PAIR_GUESS <= kind;
     }
     if (records.len() % SIZE == 0) & guessed {
-        return Formed::WellFormed;
+        return Ok(());
     }
-    Formed::Refused(malformed_at(n))
+    Err(malformed_at(n))
 }
 
 // The lowest place at which a list of records is not well formed, if there is one.
-pub fn well_formed(text: &[u8], records: &[u8]) -> Formed
+pub fn well_formed(text: &[u8], records: &[u8]) -> Result<(), Refusal>
     ensures { result ≡ formed_of (entries text.now records.now) }
 {
     judged(text, records, true)
@@ -76,8 +66,5 @@ pub fn well_formed(text: &[u8], records: &[u8]) -> Formed
 pub fn laid_out(text: &[u8], records: &[u8]) -> bool
     ensures { result ≡ laid_out text.now records.now }
 {
-    match judged(text, records, false) {
-        Formed::WellFormed => true,
-        Formed::Refused(why) => false,
-    }
+    judged(text, records, false).is_ok()
 }

@@ -87,28 +87,26 @@ fn view_bytes(v: View) -> [u8; 4]
 fn instruction_bytes(r: Record) -> [u8; SIZE]
     ensures { result ≡ instruction r }
 {
-    let a = view_bytes(r.labels[0]);
-    let b = view_bytes(r.labels[1]);
-    let c = view_bytes(r.labels[2]);
-    let d = view_bytes(r.labels[3]);
-    let x = le64(r.x);
-    [
-        MARK, r.kind, r.third, r.count, a[0], a[1], a[2], a[3], b[0], b[1], b[2], b[3], c[0], c[1],
-        c[2], c[3], d[0], d[1], d[2], d[3], x[0], x[1], x[2], x[3], x[4], x[5], x[6], x[7],
-    ]
+    let mut b = [0; SIZE];
+    b[..4].copy_from_slice(&[MARK, r.kind, r.third, r.count]);
+    b[4..8].copy_from_slice(&view_bytes(r.labels[0]));
+    b[8..12].copy_from_slice(&view_bytes(r.labels[1]));
+    b[12..16].copy_from_slice(&view_bytes(r.labels[2]));
+    b[16..20].copy_from_slice(&view_bytes(r.labels[3]));
+    b[20..].copy_from_slice(&le64(r.x));
+    b
 }
 
 // The bytes of a guess: one label, then the two numbers, then four zeros.
 fn guess_bytes(r: Record) -> [u8; SIZE]
     ensures { result ≡ guess r }
 {
-    let a = view_bytes(r.labels[0]);
-    let x = le64(r.x);
-    let y = le64(r.y);
-    [
-        MARK, r.kind, r.third, r.count, a[0], a[1], a[2], a[3], x[0], x[1], x[2], x[3], x[4], x[5],
-        x[6], x[7], y[0], y[1], y[2], y[3], y[4], y[5], y[6], y[7], 0, 0, 0, 0,
-    ]
+    let mut b = [0; SIZE];
+    b[..4].copy_from_slice(&[MARK, r.kind, r.third, r.count]);
+    b[4..8].copy_from_slice(&view_bytes(r.labels[0]));
+    b[8..16].copy_from_slice(&le64(r.x));
+    b[16..24].copy_from_slice(&le64(r.y));
+    b
 }
 
 // The bytes of a record.

@@ -1,7 +1,7 @@
 // Whether a record, judged by itself, is a good one.
 ghost use Rattle.std.specs.Prelude.{◌≡◌, true, false, not, ◌&&◌, ◌||◌, ◌+◌, ◌≤◌, ◌<◌, leb, eqb, length};
 ghost use Rattle.little.specs.Little.{byte, u16};
-ghost use Rattle.kinds.specs.Kinds.{table, kind_at};
+ghost use Rattle.kinds.specs.Kinds.{kind_at};
 ghost use Rattle.record.specs.Record.{record_bytes, first_guess};
 ghost use Rattle.record.specs.Decode.{is_guess, decode};
 ghost use Rattle.record.specs.Entry.{part};
@@ -10,7 +10,7 @@ ghost use Rattle.record.specs.Laid.{spelled_all, label_test, kind_told};
 ghost use Rattle.record.specs.Steps.{head_by, rest_test, shape_test, Shaped};
 
 use super::{LONGEST, MARK, SIZE, View, decode};
-use kinds::{KINDS, NEW_ARC, PAIR_GUESS};
+use kinds::{NEW_ARC, PAIR_GUESS};
 use text::Stand;
 
 // Whether a text is spelled as a label, or as two around a point.
@@ -26,14 +26,11 @@ fn spelled(label: &[u8], dotted: bool) -> bool
     (0 < read.len) & (read.len == label.len())
 }
 
-// Whether a label place that is used is spelled as a label.
-fn spelled_if(text: &[u8], v: View, used: bool, dotted: bool) -> bool
-    requires { used ≡ true → v.start + v.len ≤ length text.now }
-    ensures { result ≡ not used || spelled_test dotted (part text.now v.start v.len) }
+// Whether the part of a text that a view names is spelled as a label.
+fn spelled_at(text: &[u8], v: View, dotted: bool) -> bool
+    requires { v.start + v.len ≤ length text.now }
+    ensures { result ≡ spelled_test dotted (part text.now v.start v.len) }
 {
-    if !used {
-        return true;
-    }
     let start = v.start;
     let end = start + v.len;
     spelled(&text[start..end], dotted)
@@ -44,14 +41,12 @@ fn spelled_all(text: &[u8], b: &[u8], dotted: bool) -> bool
     requires { Shaped text.now b.now }
     ensures { result ≡ spelled_all text.now (decode b.now) dotted }
 {
-    let n = b[3] as usize;
-    let mut all = true;
-    let mut q = 0;
-    while q < n {
-        all = all & spelled_if(text, decode::view_at(b, 4 + q * 4), true, dotted);
-        q += 1;
+    for q in 0..b[3] as usize {
+        if !spelled_at(text, decode::view_at(b, 4 + q * 4), dotted) {
+            return false;
+        }
     }
-    all
+    true
 }
 
 // Whether the view in the four bytes from k on lies inside a text of n bytes.
@@ -123,13 +118,13 @@ fn rest(b: &[u8], n: usize, sort: u8) -> bool
 }
 
 // Whether a record is as its kind allows, but for the spelling of its labels, over a text of n bytes.
-fn shaped(kinds: &[[u8; 8]; 26], b: &[u8], n: usize) -> bool
-    requires { (kinds.now ≡ table) × (length b.now ≡ record_bytes) }
+fn shaped(b: &[u8], n: usize) -> bool
+    requires { length b.now ≡ record_bytes }
     ensures { result ≡ shape_test n b.now }
 {
-    let labels = kinds::look(kinds, b[1], kinds::LABELS);
-    let thirds = kinds::look(kinds, b[1], kinds::THIRDS);
-    let sort = kinds::look(kinds, b[1], kinds::SORT);
+    let labels = kinds::cell_of(b[1], kinds::LABELS);
+    let thirds = kinds::cell_of(b[1], kinds::THIRDS);
+    let sort = kinds::cell_of(b[1], kinds::SORT);
     if !headed(b, labels, thirds) {
         return false;
     }
@@ -138,39 +133,38 @@ fn shaped(kinds: &[[u8; 8]; 26], b: &[u8], n: usize) -> bool
 
 // Whether the labels that are looked at are spelled as labels: in full all of them, in a text that is not too long, and else that of a
 // declaration.
-fn labelled(kinds: &[[u8; 8]; 26], text: &[u8], b: &[u8], full: bool) -> bool
-    requires { (kinds.now ≡ table) × Shaped text.now b.now }
+fn labelled(text: &[u8], b: &[u8], full: bool) -> bool
+    requires { Shaped text.now b.now }
     ensures { result ≡ label_test full text.now (decode b.now) }
 {
     if full {
-        let dotted = kinds::look(kinds, b[1], kinds::SPELLING) == kinds::DOTTED;
+        let dotted = kinds::cell_of(b[1], kinds::SPELLING) == kinds::DOTTED;
         return (text.len() <= LONGEST) & spelled_all(text, b, dotted);
     }
-    spelled_if(text, decode::view_at(b, 4), b[1] <= NEW_ARC, false)
+    let declares = b[1] <= NEW_ARC;
+    if !declares {
+        return true;
+    }
+    spelled_at(text, decode::view_at(b, 4), false)
 }
 
-// The kind of a record that is good, or that is but for the spelling of labels that no declaration has, and 0 of any other bytes.
-pub(crate) fn kind_by(kinds: &[[u8; 8]; 26], text: &[u8], b: &[u8], full: bool) -> u8
-    requires { kinds.now ≡ table }
+// The kind of a record that is good, or that is but for the spelling of labels that no declaration has, and 0 of any other bytes. No
+// Option, since `good_kind` promises the 0, and `kind_told`, which the promises of `formed` go by, has it.
+pub(crate) fn kind_by(text: &[u8], b: &[u8], full: bool) -> u8
     ensures { result ≡ kind_told full text.now b.now }
 {
     if b.len() != SIZE {
         return 0;
     }
-    if !shaped(kinds, b, text.len()) {
+    if !shaped(b, text.len()) {
         return 0;
     }
-    if labelled(kinds, text, b, full) {
-        b[1]
-    } else {
-        0
-    }
+    if labelled(text, b, full) { b[1] } else { 0 }
 }
 
 // The kind of a good record, and 0 of any other bytes.
 pub fn good_kind(text: &[u8], b: &[u8]) -> u8
     ensures { result ≡ good_kind text.now b.now }
 {
-    let kinds = KINDS;
-    kind_by(&kinds, text, b, true)
+    kind_by(text, b, true)
 }

@@ -2,7 +2,7 @@
 // faults.
 #![tactic(auto)]
 
-// A refusal, by docs/FORMAT.md's number and the place where it holds.
+// A refusal, by docs/FORMAT.md's number and the place where it holds. The number is no enum: `text::refuse` and `forms::read_section` take any.
 #[derive(Clone, Copy)]
 pub struct Refusal {
     pub number: u8,

@@ -1,6 +1,7 @@
 -- The plate of `lowering` by the names of two branches: two names are exchanged and one is new. Both drawings pass, the one is the other renamed, and both
 -- are lowered to the same, as the claim says and as the definitions compute; with labels left free, with a part changed, or with a name that is no label
 -- it is otherwise. Assumes nothing.
+use Rattle.std.specs.Prelude.{Result, Err}
 use mathlib.Core.Path.{◌≡◌, refl, ap}
 use mathlib.Core.Bool.{cond}
 use mathlib.Core.List.{List, [], ◌∷◌, map}
@@ -8,6 +9,8 @@ use Prim.Native.Nat.{ℕ, ◌+◌}
 use native.Mathlib.Omega.{arith}
 use lib.ListN.{length, get_or, replicate, length-map}
 use lib.Ieee.{Float, nan}
+use Rattle.refusal.specs.declared.Refusal.{Refusal}
+use Rattle.drawing.specs.Check.{good_check}
 use Rattle.ground.specs.Words.{bytes}
 use Rattle.ground.specs.Lists.{flat}
 use Rattle.ground.proofs.Pieces.{get_or_map}
@@ -24,7 +27,6 @@ use Rattle.record.specs.Sound.{spelled_test, framed_test, sound_test}
 use Rattle.record.specs.Formed.{entry, entries, malformed_test}
 use Rattle.names.specs.Labels.{same, labelled, lowest_or}
 use Rattle.drawing.specs.declared.Checked.{Checked}
-use Rattle.drawing.specs.declared.Checked.TheVariants as checked
 use Rattle.drawing.specs.Check as check
 use check.{twice, named_at, some_named, guess_at, guessed, wrong_place, wrong_label_test, no_such_part_test, without_guess_test, check_of, count_below, checked_of}
 use Rattle.row.specs.Row.{encode_rows}
@@ -92,13 +94,13 @@ read_back_lem = refl
 
 -- ---- what the check tells of them
 
-abbrev verdicts : List Checked
+abbrev verdicts : List (Result Checked Refusal)
 verdicts =
-    checked.Passed 1 1 1 6
-    ∷ checked.Passed 1 1 1 6
-    ∷ checked.Passed 1 1 1 6
-    ∷ checked.Passed 1 1 1 6
-    ∷ checked.Refused (refusal 30 2)
+    good_check 1 1 1 6
+    ∷ good_check 1 1 1 6
+    ∷ good_check 1 1 1 6
+    ∷ good_check 1 1 1 6
+    ∷ Err (refusal 30 2)
     ∷ []
 
 pub told : map checked_of drawings ≡ verdicts
@@ -109,8 +111,8 @@ told = refl
 back_at : (i : ℕ) → get_or (map read_back drawings) i [] ≡ get_or drawings i []
 back_at i = ap (λ (ds : List (List Entry)). get_or ds i []) read_back_lem
 
-told_at : (i : ℕ) → get_or (map checked_of drawings) i (checked.Passed 0 0 0 0) ≡ get_or verdicts i (checked.Passed 0 0 0 0)
-told_at i = ap (λ (cs : List Checked). get_or cs i (checked.Passed 0 0 0 0)) told
+told_at : (i : ℕ) → get_or (map checked_of drawings) i (good_check 0 0 0 0) ≡ get_or verdicts i (good_check 0 0 0 0)
+told_at i = ap (λ (cs : List (Result Checked Refusal)). get_or cs i (good_check 0 0 0 0)) told
 
 pub ours_pass : Passes (read_back plate)
 ours_pass = (1, 1, 1, 6, rw (back_at 0) (told_at 0))
@@ -136,7 +138,7 @@ other_names = rw (back_at 0, back_at 1) (relabelled becomes plate)
 
 -- a call, as the promise has it
 module _ (text records : List ℕ) (next : ℕ) (ids : List ℕ) (values : List Float) (rows : List ℕ) (enough : Enough (entries text records) (room_in next ids values rows)) where
-  abbrev answered : Lowered
+  abbrev answered : Result Lowered Refusal
   answered = lower_of (entries text records) (room_in next ids values rows)
 
   call : Call text records next

@@ -6,6 +6,7 @@ use mathlib.Core.List.{List, [], ◌∷◌}
 use Prim.Native.Nat.{ℕ}
 use Prim.Native.String.{String, ◌++◌}
 use lib.Ieee.{to_bits, round, size}
+use Rattle.drawing.specs.Check.{good_check}
 use Rattle.ground.specs.Words.{bytes}
 use Rattle.refusal.specs.First.{lowest, first}
 use Rattle.text.specs.Text.{run_to, ws_on, word_at, word_on, byte_on, label_at, label_on, suffixed_on}
@@ -17,10 +18,8 @@ use Rattle.record.specs.Sound.{spelled_test, sound_test}
 use Rattle.record.specs.Formed.{malformed_test}
 use Rattle.forms.specs.Forms.{around_on, either_on, pair_on, declare_on, fixed_on, assign_on, more_on, angle_on, amount_on, gap_on, keyword_on, first_of, label_forms_on, instruction_on, guessed_on, guess_on}
 use Rattle.forms.specs.Section.{rest_of, lines_on}
-use Rattle.reader.specs.declared.Reading.TheVariants as reading
-use Rattle.reader.specs.Page.{heading_on, opt_newline_on, problem_of, reading_of, lines_of}
+use Rattle.reader.specs.Page.{heading_on, opt_newline_on, problem_of, reading_of, lines_of, good_reading}
 use Rattle.names.specs.Labels.{same, labelled}
-use Rattle.drawing.specs.declared.Checked.TheVariants as checked
 use Rattle.drawing.specs.Check as check
 use check.{twice, named_at, some_named, guess_at, guessed, wrong_place, wrong_label_test, no_such_part_test, without_guess_test, check_of, count_below, checked_of}
 use Rattle.answers.specs.Answers.{lowering_of}
@@ -43,14 +42,14 @@ drawn p c =
     ∷ entry_with 25 0 ((c ++ ".radius") ∷ []) 0x3ff0_0000_0000_0000 0
     ∷ []
 
-read : (reading_of true page record_room ≡ reading.Good 4 3 125)
+read : (reading_of true page record_room ≡ good_reading 4 3 125)
     × (lines_of page ≡ drawn "p" "c")
-    × (reading_of true exchanged record_room ≡ reading.Good 4 3 125)
+    × (reading_of true exchanged record_room ≡ good_reading 4 3 125)
     × (lines_of exchanged ≡ drawn "c" "p")
 unfolding entry_of reading_of problem_of opt_newline_on heading_on lines_on rest_of guess_on guessed_on instruction_on label_forms_on first_of keyword_on gap_on amount_on angle_on more_on assign_on fixed_on declare_on pair_on either_on around_on expr_on expr_at closed number_on number_at exponent_at no_digit all_digits end_at part_at numeral step_over carried value_of suffixed_on label_on label_at byte_on word_on word_at ws_on run_to to_bits round size
 read = (refl, refl, refl, refl)
 
-passes : (checked_of (drawn "p" "c") ≡ checked.Passed 1 1 0 2) × (checked_of (drawn "c" "p") ≡ checked.Passed 1 1 0 2)
+passes : (checked_of (drawn "p" "c") ≡ good_check 1 1 0 2) × (checked_of (drawn "c" "p") ≡ good_check 1 1 0 2)
 unfolding checked_of check_of first lowest count_below malformed_test sound_test spelled_test label_on suffixed_on byte_on label_at run_to word_at labelled twice named_at some_named guess_at guessed wrong_place wrong_label_test no_such_part_test without_guess_test
 passes = (refl, refl)
 

@@ -2,8 +2,7 @@
 use Rattle.std.specs.Prelude.{◌≡◌, true, List, ℕ}
 use Rattle.record.specs.Record.{record_room}
 use Rattle.record.specs.Entry.{Label}
-use Rattle.reader.specs.declared.Reading.TheVariants as reading
-use Rattle.reader.specs.Page.{reading_of, lines_of}
+use Rattle.reader.specs.Page.{reading_of, lines_of, good_reading}
 use Rattle.answers.specs.Answers.{lowering_of}
 use Rattle.renaming.specs.Renaming.{Passes, Renamed}
 
@@ -12,7 +11,7 @@ pub record PassingPage (text : List ℕ) : Type 0 where
   pub instructions : ℕ
   pub guesses : ℕ
   pub end : ℕ
-  pub reads : reading_of true text record_room ≡ reading.Good instructions guesses end
+  pub reads : reading_of true text record_room ≡ good_reading instructions guesses end
   pub passes : Passes (lines_of text)
 
 -- what `rows` prints of both is the same, byte for byte

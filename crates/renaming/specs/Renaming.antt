@@ -1,15 +1,15 @@
 -- Names do not matter (docs/FORMAT.md, "Lowering"): "Take two drawings that the check passes, with the same number of records, equal in all record
 -- fields but labels, and a one-to-one renaming of declared shapes under which each label of the first becomes that of the second, the part after a
 -- dot kept. Lowered from equal counters with enough room they give the same rows, ids and starting values, byte for byte."
-use Rattle.std.specs.Prelude.{◌≡◌, ◌↔◌, List, ◌++◌, map, ℕ, ◌*◌, length, take, Float}
+use Rattle.std.specs.Prelude.{◌≡◌, ◌↔◌, List, ◌++◌, map, ℕ, ◌*◌, length, take, Float, Result}
+use Rattle.refusal.specs.declared.Refusal.{Refusal}
 use Rattle.refusal.specs.First.{SomeBelow, EachBelow}
 use Rattle.kinds.specs.Kinds.{Declaration}
 use Rattle.record.specs.Entry.{Label, Entry, entry_at}
 use Rattle.record.specs.Formed.{entries}
 use Rattle.names.specs.Labels.{kind_no, name_no}
 use Rattle.names.specs.Cut.{stem, behind}
-use Rattle.drawing.specs.declared.Checked.TheVariants as checked
-use Rattle.drawing.specs.Check.{checked_of}
+use Rattle.drawing.specs.Check.{checked_of, good_check}
 use Rattle.row.specs.Row.{row_bytes}
 use Rattle.lowering.specs.declared.Lowered.{Lowered}
 use Rattle.lowering.specs.Slots.{slots}
@@ -21,7 +21,7 @@ use Rattle.lowering.specs.Demand.{Enough}
 
 -- whatever its counts of points, circles, arcs and rules are
 abbrev pub Passes : List Entry → Type 0
-Passes es = (P : ℕ) × (C : ℕ) × (A : ℕ) × (R : ℕ) × (checked_of es ≡ checked.Passed P C A R)
+Passes es = (P : ℕ) × (C : ℕ) × (A : ℕ) × (R : ℕ) × (checked_of es ≡ good_check P C A R)
 
 -- ---- a one-to-one renaming of declared shapes
 
@@ -60,7 +60,7 @@ pub record Call (text records : List ℕ) (next : ℕ) : Type 0 where
   pub values : List Float
   pub rows : List ℕ
   pub enough : Enough (entries text records) (room_in next ids values rows)
-  pub answer : Lowered
+  pub answer : Result Lowered Refusal
   pub ids_after : List ℕ
   pub values_after : List Float
   pub rows_after : List ℕ
@@ -97,5 +97,5 @@ abbrev pub NoCallTells : Type 0
 NoCallTells =
     (text records text' records' : List ℕ) → let es = entries text records in let es' = entries text' records' in
     Passes es → Passes es' → (becomes : Label → Label) → Renamed becomes es es'
-    → (next : ℕ) (ids : List ℕ) (values : List Float) (rows : List ℕ) (r : Lowered) (ids' : List ℕ) (values' : List Float) (rows' : List ℕ)
+    → (next : ℕ) (ids : List ℕ) (values : List Float) (rows : List ℕ) (r : Result Lowered Refusal) (ids' : List ℕ) (values' : List Float) (rows' : List ℕ)
     → Lowers es next ids values rows r ids' values' rows' ↔ Lowers es' next ids values rows r ids' values' rows'

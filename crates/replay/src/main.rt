@@ -2,11 +2,10 @@
 // with the line `bad batch`.
 #![tactic(auto)]
 
-ghost use Rattle.std.specs.Prelude.{◌≤◌, length};
+ghost use Rattle.std.specs.Prelude.{◌<◌, IfOk, IfSome, length};
 
 use answers::Way;
 use batch::Header;
-use rail::Place;
 use std::io;
 use std::io::{Read, Write};
 
@@ -17,156 +16,115 @@ const MOST: usize = 65536;
 
 const BLOCKS: u64 = 0xffff_ffff_ffff_ffff;
 
-// What was read of a header line.
-#[derive(Clone, Copy)]
-enum Got {
-    Line(usize),
-    End,
-    Broken,
+// Why a batch stops: it breaks the form, an answer is too long, or a stream failed.
+#[derive(Drop)]
+enum Stop {
+    Bad,
+    Long,
+    Failed(io::Error),
+}
+
+impl From<io::Error> for Stop {
+    fn from(e: io::Error) -> Stop {
+        Stop::Failed(e)
+    }
 }
 
 // The next byte of the input, if there is one.
-#[derive(Clone, Copy)]
-enum Next {
-    Byte(u8),
-    End,
-}
-
-fn next_byte<R: Read>(input: &mut R) -> io::Result<Next> {
+fn next_byte<R: Read>(input: &mut R) -> io::Result<Option<u8>> {
     let mut b = [0u8; 1];
     let n = stream::read_full(input, &mut b)?;
-    if n == 0 {
-        return Ok(Next::End);
-    }
-    Ok(Next::Byte(b[0]))
+    Ok(if n == 0 { None } else { Some(b[0]) })
 }
 
-// Reads a header line, up to its new line.
-fn read_line<R: Read>(input: &mut R, line: &mut [u8]) -> io::Result<Got> {
-    let mut i = 0;
-    while i < line.len() {
-        let Next::Byte(b) = next_byte(input)? else {
-            return Ok(ended(i));
-        };
-        if b == b'\n' {
-            return Ok(Got::Line(i));
-        }
-        line[i] = b;
-        i += 1;
-    }
-    Ok(Got::Broken)
-}
-
-// What was read where the input ended: nothing, or a part of a line.
-fn ended(i: usize) -> Got {
-    if i == 0 {
-        return Got::End;
-    }
-    Got::Broken
-}
-
-// Prints that the batch is bad, and tells to stop.
-fn bad<W: Write>(output: &mut W) -> io::Result<bool> {
-    output.write_all(b"bad batch\n")?;
-    Ok(false)
-}
-
-// Reads a text of n bytes, and tells whether all were there.
-fn read_text<R: Read>(input: &mut R, text: &mut [u8], n: usize) -> io::Result<bool>
-    requires { n ≤ length text.old }
+// Reads a header line up to its new line, and tells how long it is; none where the input ends before it.
+fn read_line<R: Read>(input: &mut R, line: &mut [u8]) -> Result<Option<usize>, Stop>
+    ensures { IfOk result (λ o. IfSome o (λ n. n < length line.new)) }
 {
-    Ok(n <= stream::read_full(input, &mut text[..n])?)
+    for i in 0..line.len() {
+        match next_byte(input)? {
+            Some(b'\n') => return Ok(Some(i)),
+            Some(b) => line[i] = b,
+            None if i == 0 => return Ok(None),
+            None => return Err(Stop::Bad),
+        }
+    }
+    Err(Stop::Bad)
 }
 
-// Whether a new line follows.
-fn line_ends<R: Read>(input: &mut R) -> io::Result<bool> {
-    let Next::Byte(b) = next_byte(input)? else {
-        return Ok(false);
-    };
-    Ok(b == b'\n')
+// Reads a text, and the new line behind it.
+fn read_text<R: Read>(input: &mut R, text: &mut [u8]) -> Result<(), Stop> {
+    let n = stream::read_full(input, text)?;
+    if n < text.len() {
+        return Err(Stop::Bad);
+    }
+    match next_byte(input)? {
+        Some(b'\n') => Ok(()),
+        _ => Err(Stop::Bad),
+    }
 }
 
-// Prints what is asked of a text, by way of room for it, and a line `.`; tells whether to go on.
-fn put<W: Write>(output: &mut W, text: &[u8], way: Way, out: &mut [u8]) -> io::Result<bool> {
-    let Place::At(end) = answers::answer(text, way, out) else {
-        output.write_all(b"answer too long\n")?;
-        return Ok(false);
+// Prints what is asked of a text, by way of room for it, and a line `.`.
+fn put<W: Write>(output: &mut W, text: &[u8], way: Way, out: &mut [u8]) -> Result<(), Stop> {
+    let Some(end) = answers::answer(text, way, out) else {
+        return Err(Stop::Long);
     };
     output.write_all(&out[..end])?;
     output.write_all(b".\n")?;
-    Ok(true)
+    Ok(())
 }
 
-// Answers a text of n bytes, which follows on the input with a new line; tells whether to go on.
-fn answer<R: Read, W: Write>(
-    input: &mut R,
-    output: &mut W,
-    text: &mut [u8],
-    n: usize,
-    way: Way,
-    out: &mut [u8],
-) -> io::Result<bool> {
-    if text.len() < n {
-        return bad(output);
-    }
-    if !read_text(input, text, n)? {
-        return bad(output);
-    }
-    if !line_ends(input)? {
-        return bad(output);
-    }
-    put(output, &text[..n], way, out)
-}
-
-// Answers a block by its header.
-fn by_header<R: Read, W: Write>(
-    input: &mut R,
-    output: &mut W,
-    h: Header,
-    text: &mut [u8],
-    out: &mut [u8],
-) -> io::Result<bool> {
-    match h {
-        Header::Case(n) => answer(input, output, text, n, Way::Plain, out),
-        Header::List(n) => answer(input, output, text, n, Way::Whole, out),
-        Header::Check(n) => answer(input, output, text, n, Way::Check, out),
-        Header::Rows(n) => answer(input, output, text, n, Way::Rows, out),
-        Header::Bad => bad(output),
+// How long the text of a block is, and what is asked of it.
+fn asked(header: Header) -> (usize, Way) {
+    match header {
+        Header::Case(n) => (n, Way::Plain),
+        Header::List(n) => (n, Way::Whole),
+        Header::Check(n) => (n, Way::Check),
+        Header::Rows(n) => (n, Way::Rows),
     }
 }
 
-// Answers the next block, by way of room for its text, for its header line and for its answer; tells whether to go on.
+// Answers the next block, by way of room for its text and for its answer; tells whether there was one.
 fn block<R: Read, W: Write>(
     input: &mut R,
     output: &mut W,
     text: &mut [u8],
-    line: &mut [u8],
     out: &mut [u8],
-) -> io::Result<bool> {
-    match read_line(input, line)? {
-        Got::Line(n) => {
-            if line.len() < n {
-                return bad(output);
-            }
-            by_header(input, output, batch::read_header(&line[..n]), text, out)
-        }
-        Got::End => Ok(false),
-        Got::Broken => bad(output),
+) -> Result<bool, Stop> {
+    let mut line = [0u8; LONGEST];
+    let Some(len) = read_line(input, &mut line)? else {
+        return Ok(false);
+    };
+    let Some(header) = batch::read_header(&line[..len]) else {
+        return Err(Stop::Bad);
+    };
+    let (n, way) = asked(header);
+    if text.len() < n {
+        return Err(Stop::Bad);
     }
+    read_text(input, &mut text[..n])?;
+    put(output, &text[..n], way, out)?;
+    Ok(true)
+}
+
+// Answers all blocks.
+fn answer_all<R: Read, W: Write>(input: &mut R, output: &mut W) -> Result<(), Stop> {
+    let mut text = [0u8; MOST];
+    let mut out = [0u8; answers::LONGEST];
+    for _ in 0..BLOCKS {
+        if !block(input, output, &mut text, &mut out)? {
+            return Ok(());
+        }
+    }
+    Ok(())
 }
 
 fn main(rt: HostRuntime) -> io::Result<()> {
-    let mut input = rt.stdin();
     let mut output = rt.stdout();
-    let mut text = [0u8; MOST];
-    let mut line = [0u8; LONGEST];
-    let mut out = [0u8; answers::LONGEST];
-    let mut left = BLOCKS;
-    while 0 < left {
-        if !block(&mut input, &mut output, &mut text, &mut line, &mut out)? {
-            return Ok(());
-        }
-        left -= 1;
+    match answer_all(&mut rt.stdin(), &mut output) {
+        Ok(()) => Ok(()),
+        Err(Stop::Bad) => output.write_all(b"bad batch\n"),
+        Err(Stop::Long) => output.write_all(b"answer too long\n"),
+        Err(Stop::Failed(e)) => Err(e),
     }
-    Ok(())
 }

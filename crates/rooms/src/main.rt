@@ -8,9 +8,10 @@ ghost use Rattle.std.specs.Prelude.{◌≤◌};
 use batch::line::{number, until};
 use layout::IDS_END;
 use lowering::Lowered;
-use rail::Place;
+use rail::Rail;
 use reader::Reading;
 use record::{ROOM, SIZE};
+use refusal::Refusal;
 use std::io;
 use std::io::Write;
 
@@ -30,26 +31,19 @@ const BYTE: u8 = 9;
 // How many ids there can be: those that are given, and the one past them.
 const IDS: u64 = (IDS_END as u64) + 1;
 
-// A page by the places where it begins and ends.
-#[derive(Clone, Copy)]
-struct Page {
-    start: usize,
-    end: usize,
-}
-
-fn put<W: Write>(out: &mut W, words: &[u8]) -> io::Result<()> {
-    out.write_all(words)
-}
-
 // Prints what lowering told, by way of a buffer.
-fn put_lowered<W: Write>(out: &mut W, r: Lowered, room: &mut [u8]) -> io::Result<()> {
-    let Place::At(n) = lines::lowered_line(r, room, true, Place::At(0)) else {
-        return Ok(());
+fn put_lowered<W: Write>(out: &mut W, told: Result<Lowered, Refusal>) -> io::Result<()> {
+    let mut room = [0u8; 200];
+    let mut rail = Rail {
+        buf: &mut room,
+        write: true,
+        place: Some(0),
     };
-    if room.len() < n {
-        return Ok(());
+    lines::lowered_line(told, &mut rail);
+    match rail.place {
+        Some(n) if n <= room.len() => out.write_all(&room[..n]),
+        _ => Ok(()),
     }
-    put(out, &room[..n])
 }
 
 // Prints whether everything lent is as it was, where the plate's first and last slots and rows are.
@@ -66,9 +60,9 @@ fn put_kept<W: Write>(
         & (rows[0] == BYTE)
         & (rows[219] == BYTE)
     {
-        put(out, b"everything lent is as it was\n")
+        out.write_all(b"everything lent is as it was\n")
     } else {
-        put(out, b"ids, values and rows are written\n")
+        out.write_all(b"ids, values and rows are written\n")
     }
 }
 
@@ -76,8 +70,7 @@ fn put_kept<W: Write>(
 fn up_to(line: &[u8], k: usize, most: usize) -> usize
     ensures { result ≤ most }
 {
-    let n = number(line, k) as usize;
-    if n < most { n } else { most }
+    (number(line, k) as usize).min(most)
 }
 
 // Lowers records with so much lent as a line says, and prints what is told.
@@ -97,22 +90,16 @@ fn lower<W: Write>(out: &mut W, text: &[u8], records: &[u8], line: &[u8]) -> io:
         &mut values[..v],
         &mut rows[..b],
     );
-    let mut line = [0u8; 200];
-    put_lowered(out, r, &mut line)?;
+    put_lowered(out, r)?;
     put_kept(out, ids, values, rows)
 }
 
 // How many bytes the records of a reading take.
-fn bytes_of(r: Reading) -> usize {
-    let Reading::Good {
-        instructions,
-        guesses,
-        end: _,
-    } = r
-    else {
+fn bytes_of(r: Result<Reading, Refusal>) -> usize {
+    let Ok(read) = r else {
         return 0;
     };
-    let count = instructions.wrapping_add(guesses);
+    let count = read.instructions.wrapping_add(read.guesses);
     if ROOM / SIZE < count {
         return 0;
     }
@@ -142,54 +129,46 @@ fn read_and_lower<W: Write>(
     lower(out, text, &records[..n], line)
 }
 
-// Does so with a page of a text.
-fn lower_page<W: Write>(out: &mut W, text: &[u8], page: Page, line: &[u8]) -> io::Result<()> {
-    let start = page.start;
-    let end = page.end;
-    if end < start {
-        return Ok(());
+// Does so with a page, if there is one.
+fn lower_page<W: Write>(out: &mut W, page: Option<&[u8]>, line: &[u8]) -> io::Result<()> {
+    match page {
+        Some(text) => {
+            let mut records = [0u8; ROOM];
+            read_and_lower(out, text, line, &mut records)
+        }
+        None => Ok(()),
     }
-    if text.len() < end {
-        return Ok(());
-    }
-    let mut records = [0u8; ROOM];
-    read_and_lower(out, &text[start..end], line, &mut records)
 }
 
 // Prints what stands behind `SAY` and a blank.
 fn say<W: Write>(out: &mut W, line: &[u8]) -> io::Result<()> {
     if 4 <= line.len() {
-        put(out, &line[4..])?;
-        put(out, b"\n")?;
+        out.write_all(&line[4..])?;
+        out.write_all(b"\n")?;
     }
     Ok(())
 }
 
 // Answers a line of a text, behind which the text goes on at a place, and hands on the page.
-fn answer<W: Write>(
+fn answer<'a, W: Write>(
     out: &mut W,
-    text: &[u8],
+    text: &'a [u8],
     line: &[u8],
     then: usize,
-    page: Page,
-) -> io::Result<Page> {
+    page: Option<&'a [u8]>,
+) -> io::Result<Option<&'a [u8]>> {
     match text::byte_at(line, 0) {
-        b'P' => {
-            return Ok(Page {
-                start: then,
-                end: until(text, then, b';'),
-            });
-        }
-        b'L' => lower_page(out, text, page, line)?,
+        b'P' => return Ok(text.get(then..until(text, then, b';'))),
+        b'L' => lower_page(out, page, line)?,
         b'S' => say(out, line)?,
         _ => {}
     }
     Ok(page)
 }
 
-// Answers all lines.
+// Answers all lines. A `while`, since a page begins behind its line, and may span lines.
 fn answer_all<W: Write>(out: &mut W, text: &[u8]) -> io::Result<()> {
-    let mut page = Page { start: 0, end: 0 };
+    let mut page = Some(&text[..0]);
     let mut at = 0;
     while at < text.len() {
         let end = until(text, at, b'\n');

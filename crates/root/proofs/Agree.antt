@@ -4,7 +4,7 @@ use mathlib.Core.Path.{◌≡◌, refl, sym, ap, ◌∙◌}
 use mathlib.Core.Logic.{◌⊎◌, inl, inr, ◌↔◌}
 use mathlib.Core.Bool.{true, false}
 use Prim.Native.Nat.{ℕ, suc, ◌+◌, ◌-◌, ◌*◌, ◌/◌, ◌%◌, ◌^◌, ◌≤◌, ◌<◌}
-use native.Mathlib.Nat.{le_of_lt, eq-zero-or-pos}
+use native.Mathlib.Nat.{le_of_lt}
 use native.Mathlib.Decide.{dec_le, ℕ_discrete}
 use native.Mathlib.Omega.{arith}
 use borrow.Author.Tests.{ne_eqb, lt-ltb, le-ltb}
@@ -69,9 +69,6 @@ kept b (inr (inr e)) = rw e
 
 lost : (b : ℕ) → (b ≡ plus_zero → ⊥) × (b ≡ minus_zero → ⊥) × (b ≡ infinity → ⊥) → is_kept b ≡ false
 lost b h = rw (ne_eqb b plus_zero h.0, ne_eqb b minus_zero h.1, ne_eqb b infinity h.2)
-
-pub not_kept : (b : ℕ) → is_kept b ≡ false → plus_zero < b
-not_kept b h = elim (eq-zero-or-pos b) [ inl e ↦ (let k = kept b (inl e) in let z : ◌≡◌ {A = ℕ} 0 1 = cc in omega arith) | inr p ↦ p ]
 
 no_root : (b : ℕ) → BelowZero b ⊎ IsNan b → (infinity < b) × (is_kept b ≡ false)
 no_root b (inl h) = (omega arith, lost b (omega arith))

@@ -42,7 +42,7 @@ scaling_normal (suc x) t p h =
     record { least = omega arith; most = omega arith; value = rw (e, pow-add, mul_assoc) }
 
 -- one of k + 1 digits
-scaling_small : (t k j : ℕ) → k + j ≡ 52 → 2 ^ k ≤ t → t < 2 ^ suc k → Scaling (t * 2 ^ 52) (t * 2 ^ j) k
+pub scaling_small : (t k j : ℕ) → k + j ≡ 52 → 2 ^ k ≤ t → t < 2 ^ suc k → Scaling (t * 2 ^ 52) (t * 2 ^ j) k
 scaling_small t k j e a b =
     let f : suc k + j ≡ 53 = omega arith in
     let p : 2 ^ k * 2 ^ j ≡ 2 ^ 52 = rw (← pow-add, e) in

@@ -27,8 +27,7 @@ fn root_core(h: u64) -> u64
     let mut q: u64 = 0;
     let mut rem: u64 = 0;
     let mut a: u64 = h;
-    let mut i: u64 = 0;
-    while i < 53 {
+    for _ in 0..53u64 {
         let next = rem * 4 + a / TWO_52;
         a = a % TWO_52 * 4;
         let trial = q * 4 + 1;
@@ -39,7 +38,6 @@ fn root_core(h: u64) -> u64
             rem = next;
             q = q * 2;
         }
-        i += 1;
     }
     if q < rem { q + 1 } else { q }
 }
@@ -56,22 +54,20 @@ fn normal(t: u64) -> Scaled
     requires { (0 < t) × (t < 2 ^ 52) }
     ensures { (result.g ≤ 52) × Scaling (t * 2 ^ 52) result.m result.g }
 {
-    let mut m = t;
-    let mut g: u64 = 52;
-    while m < TWO_52 {
-        m = m * 2;
-        g = g - 1;
+    let shift = t.leading_zeros() - 11;
+    Scaled {
+        m: t << shift,
+        g: u64::from(52 - shift),
     }
-    Scaled { m, g }
 }
 
 // The bits of the root of m * 2^e, for e = g - 1126.
-fn root_scaled(m: u64, g: u64) -> u64
-    requires { (2 ^ 52 ≤ m) × ((m < 2 ^ 53) × (g < 2100)) }
-    ensures { result ≡ scaled_root m g }
+fn root_scaled(x: Scaled) -> u64
+    requires { (2 ^ 52 ≤ x.m) × ((x.m < 2 ^ 53) × (x.g < 2100)) }
+    ensures { result ≡ scaled_root x.m x.g }
 {
-    let n = root_core(m * (1 + g % 2));
-    (g + 972) / 2 * TWO_52 + (n - TWO_52)
+    let n = root_core(x.m * (1 + x.g % 2));
+    (x.g + 972) / 2 * TWO_52 + (n - TWO_52)
 }
 
 // The bits of the root of the f64 with the bits b. Zero gives itself with its sign, plus infinity itself;
@@ -88,8 +84,10 @@ pub fn root_bits(b: u64) -> u64
     let x = b / TWO_52;
     let t = b % TWO_52;
     if x == 0 {
-        let s = normal(t);
-        return root_scaled(s.m, s.g);
+        return root_scaled(normal(t));
     }
-    root_scaled(TWO_52 + t, x + 51)
+    root_scaled(Scaled {
+        m: TWO_52 + t,
+        g: x + 51,
+    })
 }

@@ -1,22 +1,24 @@
 -- The test of rows says what their words say, a loop over rows comes to it, and rows with well formed fields pass it. Assumes nothing.
 use mathlib.Core.Path.{◌≡◌, refl, sym, ap, ◌∙◌}
-use mathlib.Core.Bool.{true}
+use mathlib.Core.Bool.{Bool, true, not, ◌||◌}
 use mathlib.Core.List.{List, [], ◌∷◌}
-use Prim.Native.Nat.{ℕ, ◌+◌, ◌*◌, ◌/◌, ◌%◌, ◌≤◌, ◌<◌}
-use native.Mathlib.Nat.{add-zero}
+use Prim.Native.Nat.{ℕ, zero, suc, ◌+◌, ◌-◌, ◌*◌, ◌/◌, ◌%◌, ◌≤◌, ◌<◌}
+use native.Mathlib.Nat.{add-zero, not-suc-le-zero}
 use native.Mathlib.Decide.{dec_lt}
 use native.Mathlib.Omega.{arith}
-use lib.ListN.{length, get_or, drop, get_or-eq_default}
+use lib.Dec.{leb, eqb}
+use lib.ListN.{length, get_or, drop, get_or-eq_default, length-drop}
 use lib.Seq.{get_or-take, get_or-drop}
-use borrow.Author.Tests.{lt-ltb}
+use borrow.Author.Tests.{lt-ltb, eq-eqb, eqb-true}
+use Rattle.std.specs.List.{list_all}
 use Rattle.ground.proofs.Pieces.{Each, each_at}
-use Rattle.refusal.specs.First.{EachBelow}
-use Rattle.refusal.proofs.Says.{Says, says_iff, says_and, says_if, says_all, says_eq, says_le, says_lt, says_so}
+use Rattle.refusal.specs.First.{EachBelow, all_below}
+use Rattle.refusal.proofs.Says.{Says, says_once, says_iff, says_and, says_if, says_all, says_eq, says_le, says_lt, says_so}
 use Rattle.little.specs.Little.{byte}
 use Rattle.layout.specs.Slots.{size_of}
 use Rattle.layout.specs.declared.ShapeKind.TheVariants.{Point, Circle, Arc}
 use Rattle.kinds.specs.Kinds.{table, cell, kind_at, needs_column, first_rule, last_rule, numberless, label_places}
-use Rattle.kinds.proofs.Cells.{looked, needs_is}
+use Rattle.kinds.proofs.Cells.{needs_is}
 use Rattle.row.specs.declared.Row.{Row as Held}
 use Rattle.row.specs.Row.{Row, held, bytes_of, encode_row, encode_rows, RowFits, row_bytes, row_mark, most_ids, row_no, row_of, held_in}
 use Rattle.row.proofs.Back.{no_row, fields_back, rows_length, rows_count, row_no_lem}
@@ -35,12 +37,36 @@ few need = elim (dec_lt need 6) [
   | no f ↦ omega (arith, none_for need (omega arith))
 ]
 
--- the ids of a label place, by its need in the table as it is lent
-pub by_need : (lent : List (List ℕ)) (kind q need ids : ℕ) → lent ≡ table → q < label_places → need ≡ cell lent kind (needs_column + q) → ids ≡ ids_for need
+-- the ids of a label place, by its need in the table
+pub by_need : (kind q need ids : ℕ) → q < label_places → need ≡ cell table kind (needs_column + q) → ids ≡ ids_for need
     → (ids ≡ ids_at kind q) × (ids ≤ size_of Arc)
-by_need lent kind q need ids e h found is =
-    let all = is ∙ ap ids_for (looked lent kind (needs_column + q) need e found (needs_is kind q h)) in
+by_need kind q need ids h found is =
+    let all = is ∙ ap ids_for (found ∙ needs_is kind q h) in
     (all, omega (arith, is, few need))
+
+-- ---- the ids behind those that a row has
+
+-- a list's test says that each of its elements passes
+says_list : (p : ℕ → Bool) (xs : List ℕ) → Says (list_all p xs) ((k : ℕ) → k < length xs → p (get_or xs k 0) ≡ true)
+says_list p [] = record { so = λ e k h. absurd (not-suc-le-zero h); back = λ f. refl }
+says_list p (x ∷ xs) =
+    says_iff (λ w k h. go w k h) (λ f. (f 0 (omega arith), λ k h. f (suc k) (omega arith))) (says_and says_so (says_list p xs))
+  where
+    go : (p x ≡ true) × ((k : ℕ) → k < length xs → p (get_or xs k 0) ≡ true) → (k : ℕ) → k < suc (length xs) → p (get_or (x ∷ xs) k 0) ≡ true
+    go w zero h = w.0
+    go w (suc k) h = w.1 k (omega arith)
+
+-- they are all 0 exactly if each id from the count on is
+pub clear_is : (ids : List ℕ) (n : ℕ) → length ids ≡ most_ids → list_all (λ x. eqb x 0) (drop n ids) ≡ all_below most_ids (λ q. not (leb n q) || eqb (get_or ids q 0) 0)
+clear_is ids n e =
+    says_once (says_list (λ x. eqb x 0) (drop n ids))
+    (says_iff
+    (λ w k h. let b : n + k < most_ids = omega (arith, h, e, length-drop n ids) in rw (get_or-drop n ids k) (eq-eqb (get_or ids (n + k) 0) 0 (w (n + k) b (omega arith))))
+    (λ f q b le.
+    let z : q ≡ n + (q - n) = omega arith in
+    let h : q - n < length (drop n ids) = omega (arith, b, e, length-drop n ids) in
+    rw z (eqb-true (get_or ids (n + (q - n)) 0) 0 (rw (get_or-drop n ids (q - n)) at (f (q - n) h))))
+    (says_all _ _ (λ q. says_if (says_le n q) (says_eq (get_or ids q 0) 0)) most_ids))
 
 -- ---- what the tests say
 

@@ -1,65 +1,49 @@
 // Whether rows are well formed.
-ghost use Rattle.std.specs.Prelude.{◌≡◌, ◌/◌, ◌≤◌, ◌<◌, length};
+ghost use Rattle.std.specs.Prelude.{◌≡◌, ◌/◌, ◌≤◌, ◌<◌, ◌==◌, length, drop};
+ghost use Rattle.std.specs.List.{list_all};
 ghost use Rattle.refusal.specs.First.{all_below};
 ghost use Rattle.layout.specs.Slots.{size_of};
 ghost use Rattle.layout.specs.declared.ShapeKind.TheVariants.{Arc};
-ghost use Rattle.kinds.specs.Kinds.{table, kind_at, label_places};
+ghost use Rattle.kinds.specs.Kinds.{kind_at, label_places};
 ghost use Rattle.row.specs.Row.{row_bytes, most_ids, row_no};
 ghost use Rattle.row.specs.Formed.{ids_at, ids_of, clear_at, held_test, row_test, rows_test};
 
 use super::{MARK, ROW, Row, decode_row};
-use kinds::{FIRST_RULE, KINDS, LAST_RULE, NEEDS, NONE};
+use kinds::{FIRST_RULE, LAST_RULE, NEEDS, NONE, cell_of};
 use layout::{VARS_PER_ARC, VARS_PER_CIRCLE, VARS_PER_POINT};
 
 // How many ids label place q of a kind comes to, by what it needs.
-fn ids_at(kinds: &[[u8; 8]; 26], kind: u8, q: usize) -> usize
-    requires { (kinds.now ≡ table) × (q < label_places) }
+fn ids_at(kind: u8, q: usize) -> usize
+    requires { q < label_places }
     ensures { (result ≡ ids_at kind q) × (result ≤ size_of Arc) }
 {
     let ids = [0, VARS_PER_POINT, VARS_PER_CIRCLE, VARS_PER_ARC, 1, 1];
-    let need = kinds::look(kinds, kind, NEEDS + q) as usize;
-    if 6 <= need {
-        return 0;
-    }
-    ids[need]
+    let need = cell_of(kind, NEEDS + q) as usize;
+    ids.get(need).copied().unwrap_or(0)
 }
 
 // How many ids the row of a kind has.
-fn ids_of(kinds: &[[u8; 8]; 26], kind: u8) -> usize
-    requires { kinds.now ≡ table }
+fn ids_of(kind: u8) -> usize
     ensures { result ≡ ids_of kind }
 {
-    ids_at(kinds, kind, 0)
-        + ids_at(kinds, kind, 1)
-        + ids_at(kinds, kind, 2)
-        + ids_at(kinds, kind, 3)
+    ids_at(kind, 0) + ids_at(kind, 1) + ids_at(kind, 2) + ids_at(kind, 3)
 }
 
 // Whether no id stands behind those that a row has.
 fn clear(r: Row) -> bool
-    ensures { result ≡ all_below most_ids (clear_at r) }
+    ensures { result ≡ list_all (λ x. x == 0) (drop r.count r.ids) }
 {
-    let ids = r.ids;
-    let n = r.count;
-    (!(n <= 0) | (ids[0] == 0))
-        & (!(n <= 1) | (ids[1] == 0))
-        & (!(n <= 2) | (ids[2] == 0))
-        & (!(n <= 3) | (ids[3] == 0))
-        & (!(n <= 4) | (ids[4] == 0))
-        & (!(n <= 5) | (ids[5] == 0))
-        & (!(n <= 6) | (ids[6] == 0))
-        & (!(n <= 7) | (ids[7] == 0))
+    r.ids.iter().skip(r.count as usize).all(|id| *id == 0)
 }
 
 // Whether the fields of a row are as its kind allows.
-fn fields_formed(kinds: &[[u8; 8]; 26], r: Row) -> bool
-    requires { kinds.now ≡ table }
+fn fields_formed(r: Row) -> bool
     ensures { result ≡ held_test (kind_at r.kind) r }
 {
     let kind = r.kind;
-    let ids = ids_of(kinds, kind);
-    let thirds = kinds::look(kinds, kind, kinds::THIRDS);
-    let sort = kinds::look(kinds, kind, kinds::SORT);
+    let ids = ids_of(kind);
+    let thirds = cell_of(kind, kinds::THIRDS);
+    let sort = cell_of(kind, kinds::SORT);
     (FIRST_RULE <= kind)
         & ((kind <= LAST_RULE)
             & ((r.count as usize == ids)
@@ -68,11 +52,11 @@ fn fields_formed(kinds: &[[u8; 8]; 26], r: Row) -> bool
 }
 
 // Whether row i is well formed.
-fn row_formed(kinds: &[[u8; 8]; 26], rows: &[u8], i: usize) -> bool
-    requires { (kinds.now ≡ table) × (i < length rows.now / row_bytes) }
+fn row_formed(rows: &[u8], i: usize) -> bool
+    requires { i < length rows.now / row_bytes }
     ensures { result ≡ row_test (row_no rows.now i) }
 {
-    (rows[i * ROW] == MARK) & fields_formed(kinds, decode_row(rows, i))
+    (rows[i * ROW] == MARK) & fields_formed(decode_row(rows, i))
 }
 
 // Whether bytes are whole rows, each well formed.
@@ -82,14 +66,10 @@ pub fn rows_formed(rows: &[u8]) -> bool
     if rows.len() % ROW != 0 {
         return false;
     }
-    let kinds = KINDS;
-    let n = rows.len() / ROW;
-    let mut i = 0;
-    while i < n {
-        if !row_formed(&kinds, rows, i) {
+    for i in 0..rows.len() / ROW {
+        if !row_formed(rows, i) {
             return false;
         }
-        i += 1;
     }
     true
 }

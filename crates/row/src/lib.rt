@@ -4,8 +4,9 @@
 pub mod formed;
 
 ghost use Rattle.std.specs.Prelude.{◌≡◌, ◌+◌, ◌<◌, length};
-ghost use Rattle.little.specs.Little.{u32, u64};
-ghost use Rattle.row.specs.Row.{row_bytes, bytes_of, held_in, row_of};
+ghost use Rattle.ground.specs.Lists.{flat};
+ghost use Rattle.little.specs.Little.{le32, u32, u64};
+ghost use Rattle.row.specs.Row.{row_bytes, eight, bytes_of, held_in, row_of};
 
 use little::{le32, le64, u32_of, u64_of};
 
@@ -26,25 +27,32 @@ pub struct Row {
     pub bits: u64,
 }
 
+// The bytes of eight ids.
+fn ids_bytes(ids: [u32; MOST_IDS]) -> [u8; 32]
+    ensures { result ≡ flat le32 (eight ids) }
+{
+    let mut b = [0; 32];
+    b[..4].copy_from_slice(&le32(ids[0]));
+    b[4..8].copy_from_slice(&le32(ids[1]));
+    b[8..12].copy_from_slice(&le32(ids[2]));
+    b[12..16].copy_from_slice(&le32(ids[3]));
+    b[16..20].copy_from_slice(&le32(ids[4]));
+    b[20..24].copy_from_slice(&le32(ids[5]));
+    b[24..28].copy_from_slice(&le32(ids[6]));
+    b[28..].copy_from_slice(&le32(ids[7]));
+    b
+}
+
 // The bytes of a row.
+#[tactic(auto, unfolding(crate::specs::Row::bytes_of))]
 pub fn encode_row(r: Row) -> [u8; ROW]
     ensures { result ≡ bytes_of r }
 {
-    let ids = r.ids;
-    let a = le32(ids[0]);
-    let b = le32(ids[1]);
-    let c = le32(ids[2]);
-    let d = le32(ids[3]);
-    let e = le32(ids[4]);
-    let f = le32(ids[5]);
-    let g = le32(ids[6]);
-    let h = le32(ids[7]);
-    let n = le64(r.bits);
-    [
-        MARK, r.kind, r.count, r.third, a[0], a[1], a[2], a[3], b[0], b[1], b[2], b[3], c[0], c[1],
-        c[2], c[3], d[0], d[1], d[2], d[3], e[0], e[1], e[2], e[3], f[0], f[1], f[2], f[3], g[0],
-        g[1], g[2], g[3], h[0], h[1], h[2], h[3], n[0], n[1], n[2], n[3], n[4], n[5], n[6], n[7],
-    ]
+    let mut b = [0; ROW];
+    b[..4].copy_from_slice(&[MARK, r.kind, r.count, r.third]);
+    b[4..36].copy_from_slice(&ids_bytes(r.ids));
+    b[36..].copy_from_slice(&le64(r.bits));
+    b
 }
 
 // The number of the four bytes from k on.
@@ -52,15 +60,21 @@ fn u32_at(b: &[u8], k: usize) -> u32
     requires { k + 3 < length b.now }
     ensures { result ≡ u32 b.now k }
 {
-    u32_of([b[k], b[k + 1], b[k + 2], b[k + 3]])
+    let end = k + 4;
+    let mut bytes = [0; 4];
+    bytes.copy_from_slice(&b[k..end]);
+    u32_of(bytes)
 }
 
-// The bits of a row's number.
-fn bits_of(b: &[u8]) -> u64
-    requires { length b.now ≡ row_bytes }
-    ensures { result ≡ u64 b.now 36 }
+// The number of the eight bytes from k on.
+fn u64_at(b: &[u8], k: usize) -> u64
+    requires { k + 7 < length b.now }
+    ensures { result ≡ u64 b.now k }
 {
-    u64_of([b[36], b[37], b[38], b[39], b[40], b[41], b[42], b[43]])
+    let end = k + 8;
+    let mut bytes = [0; 8];
+    bytes.copy_from_slice(&b[k..end]);
+    u64_of(bytes)
 }
 
 // The fields of one row's bytes.
@@ -82,7 +96,7 @@ fn fields(b: &[u8]) -> Row
             u32_at(b, 28),
             u32_at(b, 32),
         ],
-        bits: bits_of(b),
+        bits: u64_at(b, 36),
     }
 }
 

@@ -4,18 +4,13 @@ use mathlib.Core.List.{List, [], ◌++◌, append_assoc}
 use Prim.Native.Nat.{ℕ, ◌+◌, ◌≤◌}
 use native.Mathlib.Omega.{arith}
 use lib.ListN.{length, take, drop, length-append, length-take, length-drop, take-append-drop}
-use lib.Seq.{paste, take-length, take_at, drop_at, drop-drop}
+use lib.Seq.{take_at, drop_at, drop-drop}
 use Rattle.store.specs.Store.{written}
 
 module _ (d : List ℕ) (at : ℕ) (bs : List ℕ) where
   pub written_length : at + length bs ≤ length d → length (written d at bs) ≡ length d
   unfolding written
   written_length h = simp (length-append, length-take, length-drop) (omega arith)
-
-  -- a buffer into which all bytes have been pasted
-  pub pasted : (n : ℕ) → n ≡ length bs → paste d at bs n ≡ written d at bs
-  unfolding written
-  pasted n e = rw (e, take-length bs)
 
 -- bytes put behind bytes that were put
 pub written_append : (d : List ℕ) (at : ℕ) (a b : List ℕ) → at + length a + length b ≤ length d → written (written d at a) (at + length a) b ≡ written d at (a ++ b)

@@ -3,7 +3,7 @@
 
 ghost use Rattle.store.specs.Store.{Put};
 
-// Copies `src` into `buf` from `at` on, and tells whether it had room; where it had none, `buf` stays as it was.
+// Copies `src` into `buf` from `at` on, and tells whether it had room; where it had none, `buf` stays as it was. `Put` speaks of that `bool`.
 pub fn put(buf: &mut [u8], at: usize, src: &[u8]) -> bool
     ensures { Put buf.old at src.now result buf.new }
 {
@@ -13,10 +13,6 @@ pub fn put(buf: &mut [u8], at: usize, src: &[u8]) -> bool
     if buf.len() - at < src.len() {
         return false;
     }
-    let mut i = 0;
-    while i < src.len() {
-        buf[at + i] = src[i];
-        i += 1;
-    }
+    buf[at..at + src.len()].copy_from_slice(src);
     true
 }

@@ -8,6 +8,7 @@ use std::io;
 use std::io::Read;
 
 // Reads until the buffer is full or the stream ends, and tells how many bytes stand at the buffer's front. At an error bytes may have been read.
+// A `while`, since a read may give any part of what there is room for.
 pub fn read_full<R: Read>(stream: &mut R, buf: &mut [u8]) -> io::Result<usize>
     ensures within { IfOk result (λ n. n ≤ length buf.new) }
     ensures bytes { IfOk result (λ n. Consumes (R.remaining stream.old) (R.remaining stream.new) (take n buf.new)) }

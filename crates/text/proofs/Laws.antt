@@ -1,14 +1,15 @@
 -- The laws of what is read at a place: one byte more of a run or a word, and their ends; what is handed on. Assumes nothing.
-use mathlib.Core.Path.{◌≡◌, refl, ap}
+use mathlib.Core.Path.{◌≡◌, refl, sym, ap}
 use mathlib.Core.Bool.{Bool, true, false, cond}
 use mathlib.Core.List.{List, [], ◌∷◌, ◌++◌}
 use Prim.Native.Nat.{ℕ, ◌+◌, ◌≤◌, ◌<◌}
 use native.Mathlib.Numerals.{add-one}
-use native.Mathlib.Nat.{lt_of_not-le}
 use native.Mathlib.Omega.{arith}
 use lib.ListN.{length, drop, get_or, drop_of_length-le, get_or-eq_default}
 use lib.Seq.{drop-cons}
-use borrow.Author.Tests.{eq-eqb, ne_eqb}
+use lib.Dec.{eqb}
+use borrow.Author.Tests.{eq-eqb, ne_eqb, eqb-true, eqb-false}
+use Rattle.std.specs.List.{starts_with}
 use Rattle.ground.proofs.Pieces.{Each}
 use Rattle.text.specs.Text.{from, or_stand, leading, run_to, starts}
 use Rattle.text.specs.declared.Stand.{Stand}
@@ -61,10 +62,6 @@ cond_of Q false x y h k = k refl
 pub past : (s : List ℕ) (i : ℕ) → length s ≤ i → get_or s i 0 ≡ 0
 past s i h = get_or-eq_default s 0 h
 
--- a byte that is not 0 stands inside
-pub inside : (s : List ℕ) (i b : ℕ) → get_or s i 0 ≡ b → 0 < b → i < length s
-inside s i b e p = lt_of_not-le (λ (h : length s ≤ i). omega (arith, past s i h))
-
 -- ---- a run
 module _ (p : ℕ → Bool) (s : List ℕ) (i : ℕ) where
   pub run_more : i < length s → p (get_or s i 0) ≡ true → leading p (drop i s) ≡ get_or s i 0 ∷ leading p (drop (i + 1) s)
@@ -111,3 +108,12 @@ module _ (w s : List ℕ) (i p : ℕ) where
 
   pub starts_end : length w ≤ i → starts (drop i w) (drop p s) ≡ true
   starts_end h = rw (drop_of_length-le w h)
+
+-- ---- the library's words for them
+
+pub starts_is : (w s : List ℕ) → starts_with eqb s w ≡ starts w s
+starts_is [] s = refl
+starts_is (w ∷ ws) [] = refl
+starts_is (w ∷ ws) (b ∷ bs) =
+    cond_of (λ t. starts_with eqb (b ∷ bs) (w ∷ ws) ≡ t) (eqb b w) (starts ws bs) false
+    (λ e. rw (eq-eqb w b (sym (eqb-true b w e))) (starts_is ws bs)) (λ e. rw (ne_eqb w b (λ f. eqb-false b w e (sym f))))

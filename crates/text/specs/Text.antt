@@ -1,6 +1,6 @@
 -- Where reading stands, and what is read at a place (docs/FORMAT.md, "Label and spaces"). A text is the list of its bytes, a place the
 -- count of the bytes before it. Past the end stands nothing, so each reading has a meaning at every place.
-use Rattle.std.specs.Prelude.{ℕ, ◌+◌, ◌-◌, Bool, true, false, cond, ◌||◌, ◌&&◌, List, [], ◌∷◌, leb, eqb, length, drop}
+use Rattle.std.specs.Prelude.{◌≡◌, ℕ, ◌+◌, ◌-◌, Bool, true, false, cond, ◌||◌, ◌&&◌, List, [], ◌∷◌, leb, eqb, length, drop}
 use Rattle.refusal.specs.Refusal.{refusal}
 use Rattle.text.specs.declared.Stand.{Stand}
 use Rattle.text.specs.declared.Stand.TheVariants.{At, Nothing, Refused}
@@ -53,6 +53,10 @@ leading p (b ∷ bs) = cond (p b) (b ∷ leading p bs) []
 -- the place after such bytes at a place
 unfoldable pub run_to : (ℕ → Bool) → List ℕ → ℕ → ℕ
 run_to p s at = at + length (leading p (drop at s))
+
+-- what a call answers of each byte is what a test says of it
+abbrev pub Tests : (ℕ → Bool → Type 0) → (ℕ → Bool) → Type 0
+Tests call p = (b : ℕ) (answer : Bool) → call b answer → answer ≡ p b
 
 -- ---- spaces
 

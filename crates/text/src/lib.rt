@@ -2,12 +2,13 @@
 // Each reader goes on from a place, and hands on a stand that is no place.
 #![tactic(auto)]
 
-ghost use Rattle.std.specs.Prelude.{◌≡◌, get_or};
-ghost use Rattle.text.specs.Text.{or_stand, missed, due, is_space, is_alphanum, spaces_to, alphanum_to, ws_on, label_on, with_second, suffixed_on, dotted_on, word_at, word_on, byte_on, newline_on};
+ghost use Rattle.std.specs.Prelude.{◌≡◌, ℕ, Bool, get_or};
+ghost use Rattle.text.specs.Text.{or_stand, missed, due, is_space, is_alphanum, run_to, Tests, ws_on, label_on, with_second, suffixed_on, dotted_on, word_at, word_on, byte_on, newline_on};
 
 use refusal::Refusal;
 
-// A place of the text; nothing read; or a refusal.
+// A place of the text; nothing read; or a refusal. No `Result` of a place or of why there is none: it took a quarter more instructions over all
+// of reading, as each stand that is handed on is larger.
 #[derive(Clone, Copy)]
 pub enum Stand {
     At(usize),
@@ -15,7 +16,7 @@ pub enum Stand {
     Refused(Refusal),
 }
 
-// A label by its first byte and its length, and where reading stands behind it.
+// A label by its first byte and its length, and where reading stands behind it; both are 0 where none was read, as `label_on` says.
 #[derive(Clone, Copy)]
 pub struct ReadLabel {
     pub start: usize,
@@ -54,51 +55,34 @@ pub fn refuse(stand: Stand, read: Stand, number: u8) -> Stand
 pub fn byte_at(text: &[u8], at: usize) -> u8
     ensures { result ≡ get_or text.now at 0 }
 {
-    if at < text.len() { text[at] } else { 0 }
+    text.get(at).copied().unwrap_or(0)
 }
 
 // A blank or a tab.
 fn is_space(b: u8) -> bool
     ensures { result ≡ is_space b }
 {
-    (b == b' ') | (b == b'\t')
+    matches!(b, b' ' | b'\t')
 }
 
 // An ASCII letter or digit.
 fn is_alphanum(b: u8) -> bool
     ensures { result ≡ is_alphanum b }
 {
-    ((b'a' <= b) & (b <= b'z')) | ((b'0' <= b) & (b <= b'9')) | ((b'A' <= b) & (b <= b'Z'))
+    b.is_ascii_alphanumeric()
 }
 
-// The place after the spaces at a place.
-fn spaces_to(text: &[u8], at: usize) -> usize
-    ensures { result ≡ spaces_to text.now at }
+// The place after the bytes at a place that pass a test.
+fn run_to<F: Fn(u8) -> bool>(text: &[u8], at: usize, passes: F) -> usize
+    requires { F.IsAlwaysCallable passes }
+    ensures { (p : ℕ → Bool) → Tests (F.post passes) p → result ≡ run_to p text.now at }
 {
-    let mut i = at;
-    while i < text.len() {
-        if is_space(text[i]) {
-            i += 1;
-        } else {
+    for i in at..text.len() {
+        if !passes(text[i]) {
             return i;
         }
     }
-    i
-}
-
-// The place after the letters and digits at a place.
-fn alphanum_to(text: &[u8], at: usize) -> usize
-    ensures { result ≡ alphanum_to text.now at }
-{
-    let mut i = at;
-    while i < text.len() {
-        if is_alphanum(text[i]) {
-            i += 1;
-        } else {
-            return i;
-        }
-    }
-    i
+    at.max(text.len())
 }
 
 // Any count of spaces, none too.
@@ -108,7 +92,7 @@ pub fn ws(text: &[u8], stand: Stand) -> Stand
     let Stand::At(at) = stand else {
         return stand;
     };
-    Stand::At(spaces_to(text, at))
+    Stand::At(run_to(text, at, is_space))
 }
 
 // One or more letters and digits.
@@ -122,7 +106,7 @@ pub fn parse_label(text: &[u8], stand: Stand) -> ReadLabel
             then: stand,
         };
     };
-    let next = alphanum_to(text, at);
+    let next = run_to(text, at, is_alphanum);
     if next <= at {
         return ReadLabel {
             start: 0,
@@ -141,13 +125,14 @@ pub fn parse_label(text: &[u8], stand: Stand) -> ReadLabel
 fn join(first: ReadLabel, second: ReadLabel) -> ReadLabel
     ensures { result ≡ with_second first second }
 {
-    let then = second.then;
-    let Stand::At(next) = then else {
+    let Stand::At(next) = second.then else {
         return first;
     };
-    let start = first.start;
-    let len = if start <= next { next - start } else { 0 };
-    ReadLabel { start, len, then }
+    ReadLabel {
+        start: first.start,
+        len: next.saturating_sub(first.start),
+        then: second.then,
+    }
 }
 
 // A label with a point and a second label behind it, where both stand there.
@@ -172,17 +157,16 @@ pub fn parse_label_opt_suffix(text: &[u8], stand: Stand) -> ReadLabel
 fn word_at(text: &[u8], w: &[u8], at: usize) -> Stand
     ensures { result ≡ word_at text.now w.now at }
 {
+    // Byte by byte: `starts_with` took a fifth more instructions over all of reading.
     let mut p = at;
-    let mut i = 0;
-    while i < w.len() {
+    for b in w {
         if text.len() <= p {
             return Stand::Nothing;
         }
-        if text[p] != w[i] {
+        if text[p] != *b {
             return Stand::Nothing;
         }
         p += 1;
-        i += 1;
     }
     Stand::At(p)
 }
@@ -204,12 +188,14 @@ pub fn byte(text: &[u8], stand: Stand, b: u8) -> Stand
     let Stand::At(at) = stand else {
         return stand;
     };
-    if at < text.len() {
-        if text[at] == b {
-            return Stand::At(at + 1);
-        }
+    let Some(here) = text.get(at) else {
+        return Stand::Nothing;
+    };
+    if *here == b {
+        Stand::At(at + 1)
+    } else {
+        Stand::Nothing
     }
-    Stand::Nothing
 }
 
 // A new line: byte 10 and no other.

@@ -1,13 +1,8 @@
 -- `decimal::decimal` meets its contract: within the limits the number has its value, which is no NaN, and past them it is not carried.
 -- Assumes nothing.
-use mathlib.Core.Path.{sym, ◌∙◌}
 use Rattle.decimal.specs.Decimal.{carried}
 use Rattle.decimal.proofs.Laws.{value_number}
 use Rattle.decimal.proofs.decimal.Goals as goal
-
-pub decimal_f64-requires : goal.decimal_f64-requires
-unfolding carried
-decimal_f64-requires c = sym c.within.ensures ∙ c.if-within.true
 
 pub float_to_bits-result : goal.float_to_bits-result
 unfolding carried

@@ -1,11 +1,8 @@
--- What the loop keeps, and what falls.
+-- What the loop keeps.
 use mathlib.Core.Path.{◌≡◌}
-use Prim.Native.Nat.{◌-◌, ◌^◌, ◌≤◌}
+use Prim.Native.Nat.{◌^◌}
 use Rattle.decimal.specs.Decimal.{whole_number}
 use Rattle.decimal.proofs.ten_to.Given as goal
 
-abbrev pub invariant-loop-i : goal.invariant-loop-i
-invariant-loop-i l = (l.p ≡ whole_number (10 ^ l.i)) × (l.i ≤ l.a)
-
-abbrev pub decreases-loop-i : goal.decreases-loop-i
-decreases-loop-i l = l.a - l.i
+abbrev pub invariant-loop : goal.invariant-loop
+invariant-loop l = l.p ≡ whole_number (10 ^ l.counter)

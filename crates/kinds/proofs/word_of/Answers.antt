@@ -1,13 +1,16 @@
--- `kinds::word_of` meets its contract: each arm is its kind's word, and what is none of them is 0 or past the last. Assumes nothing.
-use mathlib.Core.Path.{◌≡◌, sym, ap}
-use mathlib.Core.Logic.{⊎_elim}
-use Prim.Native.Nat.{◌≤◌, ◌<◌}
-use native.Mathlib.Omega.{arith}
+-- `kinds::word_of` meets its contract: each word of the static is its kind's, and past the last there is none. Assumes nothing.
+use Rattle.std.proofs.Common.{[], ◌<◌, ◌≤◌, List, ℕ, Bor, sym, ap, ◌∙◌, arith}
+use Rattle.std.proofs.lemmas.List.{get_or-map}
 use lib.ListN.{get_or-eq_default}
-use Rattle.kinds.specs.Kinds.{Kind, kinds, no_kind, in_field}
-use Rattle.ground.proofs.Lists.{none_from}
-use borrow.Author.Rules.{rules}
+use Rattle.kinds.specs.Kinds.{Kind, kinds, no_kind, rows, word_of}
 use Rattle.kinds.proofs.word_of.Goals as goal
 
-pub returns-in_default : goal.returns-in_default
-returns-in_default c = let k = c.args.kind in ⊎_elim (λ (l : k < 1). let e : k ≡ 0 = omega (arith, l) in rw e) (λ (l : 26 ≤ k). sym (ap (λ (row : Kind). in_field row.word) (get_or-eq_default kinds no_kind l))) (none_from 1 25 k (search rules))
+pub returns-then-row-lt-ROWS : goal.returns-then-row-lt-ROWS
+returns-then-row-lt-ROWS c =
+    let h : c.from-row.result < rows = omega arith in
+    rw (← get_or-map (λ (lent : Bor (List ℕ)). lent.now) _ _ _ [] h)
+    (get_or-map (λ (row : Kind). row.word) kinds _ no_kind [] h ∙ ap word_of c.from-row.ensures)
+
+pub returns-else-row-lt-ROWS : goal.returns-else-row-lt-ROWS
+returns-else-row-lt-ROWS c =
+    let h : rows ≤ c.args.kind = omega (arith, c.from-row.ensures) in sym (ap (λ (row : Kind). row.word) (get_or-eq_default kinds no_kind h))

@@ -1,4 +1,5 @@
 -- 36, 37 and 38, in that order, behind what the check tells: each test says its lack. Assumes nothing.
+use Rattle.std.specs.Prelude.{Err}
 use mathlib.Core.Path.{◌≡◌, refl}
 use mathlib.Core.List.{List}
 use Prim.Native.Nat.{ℕ, ◌+◌}
@@ -12,10 +13,9 @@ use Rattle.refusal.proofs.Once.{clear_passes}
 use Rattle.record.specs.Entry.{Entry}
 use Rattle.drawing.specs.Faults.{Fault, number_of}
 use Rattle.drawing.specs.Check.{check_of}
-use Rattle.lowering.specs.declared.Lowered.TheVariants as L
 use Rattle.lowering.specs.Slots.{slots, layout_of}
 use Rattle.lowering.specs.Rows.{rules_of}
-use Rattle.lowering.specs.Lower.{Room, Lack, few_ids, short_slices, short_rows, lack_order, Lacking, lacking, lack_of, lower_of}
+use Rattle.lowering.specs.Lower.{Room, Lack, few_ids, short_slices, short_rows, lack_order, Lacking, lacking, lack_of, lower_of, good_lowering}
 use Rattle.lowering.specs.Demand.{Enough}
 
 module _ (es : List Entry) (room : Room) where
@@ -33,11 +33,11 @@ module _ (es : List Entry) (room : Room) where
         clear_passes (lacking es room) lack_order (le-ltb _ _ enough.ids_left, (slices, (le-ltb _ _ enough.rows_lent, tt)))
 
     -- with nothing lacking, a drawing that the check passes is lowered
-    pub lower_good : check_of es ≡ passed → lower_of es room ≡ L.Good (layout_of es) (room.next + length (slots es)) (length (rules_of es))
+    pub lower_good : check_of es ≡ passed → lower_of es room ≡ good_lowering (layout_of es) (room.next + length (slots es)) (length (rules_of es))
     unfolding lower_of answered
     lower_good c = rw (c, none_lacking) refl
 
   -- a drawing that the check refuses is refused alike
-  pub lower_refused : (f : Fault) (i : ℕ) → check_of es ≡ refused f i → lower_of es room ≡ L.Refused (refusal (number_of f) i)
+  pub lower_refused : (f : Fault) (i : ℕ) → check_of es ≡ refused f i → lower_of es room ≡ Err (refusal (number_of f) i)
   unfolding lower_of answered
   lower_refused f i c = rw c refl

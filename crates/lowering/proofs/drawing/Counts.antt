@@ -1,4 +1,5 @@
 -- The counts of a drawing are the lengths of the lists that its records are picked into: each record adds to both alike. Assumes nothing.
+use Rattle.drawing.specs.declared.Checked.{Checked}
 use mathlib.Core.Path.{◌≡◌, refl, sym, ap, ◌∙◌}
 use mathlib.Core.Bool.{Bool, true, false, cond}
 use mathlib.Core.List.{List, [], ◌∷◌, map}
@@ -11,6 +12,7 @@ use borrow.Author.Tests.{eq-eqb, ne_eqb}
 use lib.ListN.{length, get_or, take, drop, length-append}
 use lib.Seq.{take-length, get_or_at}
 use Rattle.ground.specs.Lists.{up_to}
+use Rattle.refusal.proofs.Good.{held_same}
 use Rattle.refusal.proofs.Says.{says_eq, stable}
 use Rattle.layout.specs.Slots as layout
 use Rattle.layout.proofs.Laws.{can_be}
@@ -20,11 +22,10 @@ use Rattle.record.specs.Entry.{Label, Entry, no_entry, entry_at, label_no}
 use Rattle.ground.proofs.UpTo.{get_or_up_to}
 use Rattle.names.specs.Labels.{kind_no, name_no, within}
 use Rattle.drawing.specs.Needs.{Shape, point, circle, arc, declaring}
-use Rattle.drawing.specs.declared.Checked.TheVariants as checked
 use Rattle.refusal.specs.First.{Answer, passed, refused}
 use Rattle.layout.specs.Run.{slots_for}
 use Rattle.drawing.specs.Faults.{Fault}
-use Rattle.drawing.specs.Check.{count_below, answer, check_of, checked_of}
+use Rattle.drawing.specs.Check.{count_below, answer, check_of, checked_of, good_check}
 use Rattle.lowering.specs.Slots.{Slot, slots_of_shape, labels_of, slots_of, slots, size, before, how_many, layout_of}
 use Rattle.lowering.specs.Rows.{rules_of}
 use Rattle.lowering.specs.Demand.{no_slot, Declares, ComponentOf, rules_before}
@@ -161,12 +162,19 @@ pub record PassedWith (es : List Entry) (P C A R : ℕ) : Type 0 where
   pub arcs : A ≡ how_many arc es
   pub rules : R ≡ rules_before es (length es)
 
-pub passed_with : (es : List Entry) (P C A R : ℕ) → checked_of es ≡ checked.Passed P C A R → PassedWith es P C A R
+pub passed_with : (es : List Entry) (P C A R : ℕ) → checked_of es ≡ good_check P C A R → PassedWith es P C A R
 unfolding checked_of
 passed_with es P C A R e = go (check_of es) refl e
   where
-    go : (o : Answer Fault) → check_of es ≡ o → answer es o ≡ checked.Passed P C A R → PassedWith es P C A R
-    go passed f e = record { none_found = f; points = cc; circles = cc; arcs = cc; rules = cc }
+    go : (o : Answer Fault) → check_of es ≡ o → answer es o ≡ good_check P C A R → PassedWith es P C A R
+    go passed f e =
+        record {
+          none_found = f;
+          points = sym (ap (λ (c : Checked). c.points) (held_same e));
+          circles = sym (ap (λ (c : Checked). c.circles) (held_same e));
+          arcs = sym (ap (λ (c : Checked). c.arcs) (held_same e));
+          rules = sym (ap (λ (c : Checked). c.rows) (held_same e));
+        }
     go (refused g j) f e = absurd (let z : ◌≡◌ {A = ℕ} 0 1 = cc in omega arith)
 
 -- its slots and rules, by those counts

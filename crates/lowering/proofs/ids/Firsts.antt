@@ -5,11 +5,9 @@ use mathlib.Core.List.{List, [], ◌∷◌}
 use Prim.Native.Nat.{ℕ, zero, suc, ◌+◌, ◌*◌, ◌≤◌, ◌<◌}
 use native.Mathlib.Omega.{arith}
 use native.Mathlib.Numerals.{add-one}
-use lib.Dec.{eqb}
 use lib.ListN.{length, get_or, set, replicate, length-set}
-use Rattle.ground.proofs.Lists.{either_le}
 use Rattle.refusal.proofs.Says.{refuted, fails}
-use Rattle.kinds.specs.Kinds.{new_point, new_circle, new_arc, Declaration}
+use Rattle.kinds.specs.Kinds.{new_point, new_arc, Declaration}
 use Rattle.record.specs.Record.{most_records}
 use Rattle.record.specs.Decode.{count_of, decode_at}
 use Rattle.names.specs.Labels.{within}
@@ -28,10 +26,6 @@ pub zeros_at : (n q : ℕ) → get_or (replicate {A = ℕ} n 0) q 0 ≡ 0
 zeros_at zero q = refl
 zeros_at (suc n) zero = refl
 zeros_at (suc n) (suc q) = zeros_at n q
-
--- a shape has six slots at most
-pub size_small : (kind : ℕ) → size_by kind ≤ 6
-size_small kind = either_le (eqb kind new_point) 2 _ 6 (omega arith) (either_le (eqb kind new_circle) 3 6 6 (omega arith) (omega arith))
 
 -- few records have few points and circles
 pub counts_small : {records : List ℕ} {points circles : ℕ} → Counted records points circles → (points ≤ most_records) × (circles ≤ most_records)

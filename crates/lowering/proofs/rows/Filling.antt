@@ -15,7 +15,7 @@ use Rattle.store.specs.Store.{written, Put}
 use Rattle.store.proofs.Laws.{written_length, written_none}
 use Rattle.layout.proofs.Onward.{over_front}
 use Rattle.kinds.specs.Kinds.{kind_at, needs_column, table, cell, first_rule, last_rule, label_places}
-use Rattle.kinds.proofs.Cells.{looked, needs_is}
+use Rattle.kinds.proofs.Cells.{needs_is}
 use Rattle.names.specs.Labels.{within}
 use Rattle.drawing.specs.Needs.{code_at}
 use Rattle.kinds.proofs.Table.{few_labels}
@@ -46,9 +46,6 @@ pub record Pieces {A : Type 0} (f : A → List ℕ) (g : ℕ → A) (n : ℕ) (w
   pub place : m ≡ length (joined f g q)
   pub long : length out ≡ length was
   pub most : q ≤ n
-
-pub pieces_start : {A : Type 0} {f : A → List ℕ} {g : ℕ → A} {n : ℕ} {was : List ℕ} → Pieces f g n was 0 was 0
-pieces_start = record { is = refl; place = refl; long = refl; most = omega arith }
 
 module _ {A : Type 0} {f : A → List ℕ} {g : ℕ → A} {n : ℕ} {was : List ℕ} {m : ℕ} {out : List ℕ} {q : ℕ} (p : Pieces f g n was m out q) where
   pub pieces_end : n ≤ q → Begins (joined f g n) was m out
@@ -85,11 +82,11 @@ row_is kind third bits ids m out begins b eb =
     zeros_behind (id ∷ ids) k n zero = refl
     zeros_behind (id ∷ ids) k n (suc q) = zeros_behind ids k n q
 
--- what name q of a rule stands for, by the code of its place in the table as it is lent, and by the table of names
-pub span_read : (lent : List (List ℕ)) (names : List ℕ) (kind third i q code : ℕ) → lent ≡ table → q < (kind_at kind).labels → code ≡ cell lent kind (needs_column + q)
+-- what name q of a rule stands for, by the code of its place in the table of kinds, and by the table of names
+pub span_read : (names : List ℕ) (kind third i q code : ℕ) → q < (kind_at kind).labels → code ≡ cell table kind (needs_column + q)
     → span_by code third (get_or names (i * label_places + q) 0) ≡ span_at kind third (names_at names kind i) q
-span_read lent names kind third i q code is h found =
-    let e : code ≡ code_at kind q = looked lent kind (needs_column + q) code is found (needs_is kind q (omega (arith, h, few_labels kind))) in
+span_read names kind third i q code h found =
+    let e : code ≡ code_at kind q = found ∙ needs_is kind q (omega (arith, h, few_labels kind)) in
     rw (e, get_or_up_to (kind_at kind).labels (λ q. get_or names (i * label_places + q) 0) q 0 h) refl
 
 -- ---- the rows

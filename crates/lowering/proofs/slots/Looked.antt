@@ -6,12 +6,10 @@ use Prim.Native.Nat.{ℕ, ◌+◌, ◌≤◌, ◌<◌}
 use native.Mathlib.Omega.{arith}
 use lib.ListN.{length, get_or, drop, length-append, get_or-append}
 use Rattle.ground.specs.Lists.{up_to}
-use Rattle.layout.specs.declared.PointIds.TheVariants as PI
-use Rattle.layout.specs.declared.CircleIds.TheVariants as CI
-use Rattle.layout.specs.declared.ArcIds.TheVariants as AI
+use Rattle.std.specs.Prelude.{Err}
 use Rattle.layout.specs.Slots as layout
 use Rattle.layout.specs.Refusals.{reason_number, look_told}
-use Rattle.layout.specs.Look.{point_vars, circle_vars, arc_vars, point_ids, circle_ids, arc_slot_ids}
+use Rattle.layout.specs.Look.{point_vars, circle_vars, arc_vars, looked}
 use Rattle.refusal.specs.First.{EachBelow, passed}
 use Rattle.refusal.proofs.Once.{answered_passed}
 use Rattle.layout.specs.Push.{onward}
@@ -57,10 +55,10 @@ module _ (es : List Entry) (few : length es ≤ layout.most_shapes) (ids : List 
   clear i s = look_passes (kind_for s) (layout_of es) (length ids) (before s es i) (possible es few) (omega (arith, long, length_slots es))
 
   handed_back : (i : ℕ) (s : Shape) → Declares es i s → HandsIds es ids i (taken ids (first_slot s es i) s)
-  unfolding point_ids circle_ids arc_slot_ids
-  handed_back i point d = answered_passed reason_number PI.Refused _ _ (clear i point (before_inside es i point d))
-  handed_back i circle d = answered_passed reason_number CI.Refused _ _ (clear i circle (before_inside es i circle d))
-  handed_back i arc d = answered_passed reason_number AI.Refused _ _ (clear i arc (before_inside es i arc d))
+  unfolding looked
+  handed_back i point d = answered_passed reason_number Err _ _ (clear i point (before_inside es i point d))
+  handed_back i circle d = answered_passed reason_number Err _ _ (clear i circle (before_inside es i circle d))
+  handed_back i arc d = answered_passed reason_number Err _ _ (clear i arc (before_inside es i arc d))
 
   pub looked_up : (i : ℕ) (s : Shape) (k : ℕ) (t : Slot) (n : ℕ) → ComponentOf es i s k t → get_or ids (first_slot s es i + k) 0 ≡ n → LookedUp es ids i s t n
   looked_up i s k t n c e =

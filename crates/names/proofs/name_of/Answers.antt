@@ -1,6 +1,6 @@
 -- `names::name_of` meets its contract: the walk begins at the head of the chain of the label's hash, and what it finds is the declaring
 -- record. Assumes nothing.
-use mathlib.Core.Path.{◌≡◌, sym, ap, ◌∙◌}
+use mathlib.Core.Path.{◌≡◌, refl, sym, ap, ◌∙◌}
 use Prim.Native.Nat.{ℕ, ◌+◌, ◌-◌, ◌*◌, ◌≤◌, ◌<◌}
 use native.Mathlib.Omega.{arith}
 use lib.ListN.{length, get_or, take, drop}
@@ -14,7 +14,7 @@ use Rattle.names.specs.Cut.{stem, behind, part_no}
 use Rattle.names.specs.Chains.{chains, hash_from, hash_of, Chained, first_from}
 use Rattle.names.specs.Names.{declarer, name_for}
 use Rattle.names.proofs.Laws.{rest_of}
-use Rattle.names.proofs.Drawn.{drawn_length, drawn_kind}
+use Rattle.names.proofs.Drawn.{laid_by, drawn_length, drawn_kind}
 use Rattle.names.proofs.Cut.{stem_take, behind_drop, stem_short, stem_stem}
 use Rattle.names.proofs.Links.{start_first, walk_found}
 use Rattle.names.proofs.Names.{name_none, name_sum}
@@ -57,14 +57,14 @@ slice_bounds-walk-end c = sym (length-take-le _ _ (short c.args.label.now _ _ c.
 pub walk-d-requires : goal.walk-d-requires
 walk-d-requires c =
     let p = c.front-f.ensures in
-    let f = start_first _ (stem c.args.label.now) _ _ c.requires.1 _ (start_is c.args.label.now _ _ p _ _ c.wide.ensures) (hash_small c.args.label.now _ _ p) in
-    rw (front_is c.args.label.now _ _ p) (c.requires.0, c.requires.1.next, f.up_to, f.passes)
+    let f = start_first _ (stem c.args.label.now) _ _ c.requires _ (start_is c.args.label.now _ _ p _ _ refl) (hash_small c.args.label.now _ _ p) in
+    rw (front_is c.args.label.now _ _ p) (c.requires.next, f.up_to, f.passes)
 
-pub returns-then-records-d : goal.returns-then-records-d
-returns-then-records-d c =
+pub returns-then-count-d : goal.returns-then-count-d
+returns-then-count-d c =
     let a = c.args in
-    let at = found c.args.label.now _ _ c.front-f.ensures _ _ _ _ _ c.requires.1 c.wide.ensures c.walk-d.ensures in
-    sym (name_none _ a.label.now (omega (arith, c.if-records-d.true, at, drawn_length a.text.now a.records.now)))
+    let at = found c.args.label.now _ _ c.front-f.ensures _ _ _ _ _ c.requires refl c.walk-d.ensures in
+    sym (name_none _ a.label.now (omega (arith, c.if-count-d.true, at, drawn_length a.page.now.text.now a.page.now.records.now, c.count.ensures)))
 
 pub slice_bounds-part_of-count : goal.slice_bounds-part_of-count
 slice_bounds-part_of-count c = omega (arith, short c.args.label.now _ _ c.front-f.ensures)
@@ -75,20 +75,20 @@ slice_bounds-part_of-start c = omega (arith, short c.args.label.now _ _ c.front-
 pub overflow_add-result-2 : goal.overflow_add-result-2
 overflow_add-result-2 c =
     let p = c.front-f.ensures in
-    let at = found c.args.label.now _ _ p _ _ _ _ _ c.requires.1 c.wide.ensures c.walk-d.ensures in
-    let s = sum c.args.label.now _ _ p (drawn c.args.text.now c.args.records.now) _ _ _ (rw drawn_length c.requires.0.few) (rw drawn_length c.if-records-d.false) at (c.kind_of.ensures ∙ sym (drawn_kind _ _ _)) c.part_of.ensures in
+    let at = found c.args.label.now _ _ p _ _ _ _ _ c.requires refl c.walk-d.ensures in
+    let s = sum c.args.label.now _ _ p (drawn c.args.page.now.text.now c.args.page.now.records.now) _ _ _ (rw drawn_length (laid_by _ _ c.args.page.now.laid).few) (rw (drawn_length, ← c.count.ensures) c.if-count-d.false) at (c.kind.ensures ∙ sym (drawn_kind _ _ _)) c.part_of.ensures in
     omega (arith, s)
 
 pub overflow_cast-result-2 : goal.overflow_cast-result-2
 overflow_cast-result-2 c =
     let p = c.front-f.ensures in
-    let at = found c.args.label.now _ _ p _ _ _ _ _ c.requires.1 c.wide.ensures c.walk-d.ensures in
-    let s = sum c.args.label.now _ _ p (drawn c.args.text.now c.args.records.now) _ _ _ (rw drawn_length c.requires.0.few) (rw drawn_length c.if-records-d.false) at (c.kind_of.ensures ∙ sym (drawn_kind _ _ _)) c.part_of.ensures in
+    let at = found c.args.label.now _ _ p _ _ _ _ _ c.requires refl c.walk-d.ensures in
+    let s = sum c.args.label.now _ _ p (drawn c.args.page.now.text.now c.args.page.now.records.now) _ _ _ (rw drawn_length (laid_by _ _ c.args.page.now.laid).few) (rw (drawn_length, ← c.count.ensures) c.if-count-d.false) at (c.kind.ensures ∙ sym (drawn_kind _ _ _)) c.part_of.ensures in
     omega (arith, s)
 
 pub returns : goal.returns
 returns c =
     let p = c.front-f.ensures in
-    let at = found c.args.label.now _ _ p _ _ _ _ _ c.requires.1 c.wide.ensures c.walk-d.ensures in
-    let s = sum c.args.label.now _ _ p (drawn c.args.text.now c.args.records.now) _ _ _ (rw drawn_length c.requires.0.few) (rw drawn_length c.if-records-d.false) at (c.kind_of.ensures ∙ sym (drawn_kind _ _ _)) c.part_of.ensures in
+    let at = found c.args.label.now _ _ p _ _ _ _ _ c.requires refl c.walk-d.ensures in
+    let s = sum c.args.label.now _ _ p (drawn c.args.page.now.text.now c.args.page.now.records.now) _ _ _ (rw drawn_length (laid_by _ _ c.args.page.now.laid).few) (rw (drawn_length, ← c.count.ensures) c.if-count-d.false) at (c.kind.ensures ∙ sym (drawn_kind _ _ _)) c.part_of.ensures in
     s.1

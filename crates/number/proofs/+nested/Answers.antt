@@ -12,7 +12,7 @@ returns-in_default t c = rw (opened, ← c.word.ensures) (c.number_at.ensures �
 
 pub returns-then-left-eq0 : goal.returns-then-left-eq0
 unfolding word_on
-returns-then-left-eq0 t c = rw (opened, ← c.word.ensures, c.in-At.is, eq-eqb _ _ c.if-left-eq0.true) c.no_number.ensures
+returns-then-left-eq0 t c = rw (opened, ← c.word.ensures, c.in-At.is, eq-eqb _ _ c.if-left-eq0.true) c.refused.ensures
 
 pub returns : goal.returns
 unfolding word_on

@@ -1,21 +1,12 @@
--- `print::count` meets its contract. The loop's invariant: the digits counted and those of the rest, whose last is counted already, are the number's.
--- The measure is the rest. Assumes nothing.
-use mathlib.Core.Path.{refl}
+-- `print::count` meets its contract: the powers of ten around a number tell how many digits it has. Assumes nothing.
+use mathlib.Core.Path.{sym}
 use native.Mathlib.Omega.{arith}
-use Rattle.print.proofs.Laws.{width_one, count_turn}
+use Rattle.print.specs.Print.{most_digits}
+use Rattle.print.proofs.Laws.{width_one, width_log}
 use Rattle.print.proofs.count.Goals as goal
 
-pub loop-rest-init : goal.loop-rest-init
-loop-rest-init c = record { left = 19; room = refl; small = omega arith; total = omega arith }
+pub returns-then-n-eq0 : goal.returns-then-n-eq0
+returns-then-n-eq0 c = sym (width_one 19 _ (omega arith))
 
-pub overflow_add-k : goal.overflow_add-k
-overflow_add-k c = omega arith
-
-pub loop-rest-smaller : goal.loop-rest-smaller
-loop-rest-smaller c = omega arith
-
-pub loop-rest-preserved : goal.loop-rest-preserved
-loop-rest-preserved c = count_turn _ _ _ c.loop-rest.invariant (omega arith)
-
-pub returns : goal.returns
-returns c = let l = c.loop-rest in omega (arith, width_one l.invariant.left l.rest (omega arith))
+pub returns-else-n-eq0 : goal.returns-else-n-eq0
+returns-else-n-eq0 c = let log = c.ilog10.ensures in sym (width_log most_digits _ _ log.bound log.power_le log.next_power_gt)

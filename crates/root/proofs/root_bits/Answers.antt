@@ -5,7 +5,7 @@ use Prim.Native.Nat.{◌/◌, ◌%◌, ◌^◌}
 use native.Mathlib.Omega.{arith}
 use Rattle.root.specs.Function.{root_of}
 use Rattle.root.proofs.Sizes.{scaling_normal}
-use Rattle.root.proofs.Agree.{not_kept, rooted, rooted_some}
+use Rattle.root.proofs.Agree.{rooted, rooted_some}
 use Rattle.root.proofs.root_bits.Goals as goal
 
 pub returns-then-b : goal.returns-then-b
@@ -16,15 +16,11 @@ pub returns-then-b-gt-INFINITY : goal.returns-then-b-gt-INFINITY
 unfolding root_of
 returns-then-b-gt-INFINITY c = rooted _ _ (omega arith) (rw (c.if-b.false, lt-ltb _ _ c.if-b-gt-INFINITY.true))
 
-pub normal-s-requires : goal.normal-s-requires
-unfolding root_of
-normal-s-requires c = omega (arith, not_kept c.args.b c.if-b.false)
-
 pub returns-then-x-eq0 : goal.returns-then-x-eq0
 unfolding root_of
 returns-then-x-eq0 c =
     let b = c.args.b in let e : b / 2 ^ 52 ≡ 0 = omega arith in
-    rooted_some b _ _ _ c.if-b.false (omega arith) (rw e c.normal-s.ensures.1) c.root_scaled.ensures
+    rooted_some b _ _ _ c.if-b.false (omega arith) (rw e c.normal.ensures.1) c.root_scaled.ensures
 
 pub returns : goal.returns
 unfolding root_of

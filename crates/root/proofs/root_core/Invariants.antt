@@ -1,10 +1,6 @@
--- What the loop keeps, and what falls.
-use Prim.Native.Nat.{◌-◌}
+-- What the loop keeps.
 use Rattle.root.proofs.Pairs.{Taken}
 use Rattle.root.proofs.root_core.Given as goal
 
-abbrev pub invariant-loop-i : goal.invariant-loop-i
-invariant-loop-i l = Taken l.h l.q l.rem l.a l.i
-
-abbrev pub decreases-loop-i : goal.decreases-loop-i
-decreases-loop-i l = 53 - l.i
+abbrev pub invariant-loop : goal.invariant-loop
+invariant-loop l = Taken l.h l.q l.rem l.a l.counter

@@ -14,11 +14,11 @@ module _ (m g n : ℕ) (least : 2 ^ 52 ≤ m) (most : m < 2 ^ 53) (is : n ≡ ne
   range = rw rooted (root_range m g least most)
 
 pub overflow_sub-result : goal.overflow_sub-result
-overflow_sub-result c = omega (arith, range c.args.m c.args.g _ c.requires.0 c.requires.1.0 c.root_core-n.ensures)
+overflow_sub-result c = omega (arith, range c.args.x.m c.args.x.g _ c.requires.0 c.requires.1.0 c.root_core-n.ensures)
 
 pub overflow_add-result-2 : goal.overflow_add-result-2
-overflow_add-result-2 c = omega (arith, range c.args.m c.args.g _ c.requires.0 c.requires.1.0 c.root_core-n.ensures)
+overflow_add-result-2 c = omega (arith, range c.args.x.m c.args.x.g _ c.requires.0 c.requires.1.0 c.root_core-n.ensures)
 
 pub returns : goal.returns
 unfolding scaled_root
-returns c = rw (rooted c.args.m c.args.g _ c.requires.0 c.requires.1.0 c.root_core-n.ensures)
+returns c = rw (rooted c.args.x.m c.args.x.g _ c.requires.0 c.requires.1.0 c.root_core-n.ensures)

@@ -4,4 +4,4 @@ use Rattle.row.proofs.fields.Goals as goal
 
 pub returns : goal.returns
 unfolding held_in
-returns c = rw (← c.u32_at.ensures, ← c.u32_at-2.ensures, ← c.u32_at-3.ensures, ← c.u32_at-4.ensures, ← c.u32_at-5.ensures, ← c.u32_at-6.ensures, ← c.u32_at-7.ensures, ← c.u32_at-8.ensures, ← c.bits_of.ensures)
+returns c = rw (← c.u32_at.ensures, ← c.u32_at-2.ensures, ← c.u32_at-3.ensures, ← c.u32_at-4.ensures, ← c.u32_at-5.ensures, ← c.u32_at-6.ensures, ← c.u32_at-7.ensures, ← c.u32_at-8.ensures, ← c.u64_at.ensures)

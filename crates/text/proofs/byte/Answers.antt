@@ -1,5 +1,6 @@
 -- `text::byte` meets its contract: a byte is a word of one byte, so it goes by that byte. Assumes nothing.
 use borrow.Author.Tests.{eq-eqb, ne_eqb}
+use mathlib.Core.Path.{sym, ◌∙◌}
 use Prim.Native.Nat.{ℕ}
 use lib.ListN.{drop_of_length-le}
 use lib.Seq.{drop-cons}
@@ -11,14 +12,16 @@ pub returns-in_default : goal.returns-in_default
 unfolding byte_on word_at
 returns-in_default c = handed c.args.stand _ _ c.in_default.not-At
 
-pub returns-then-text-at : goal.returns-then-text-at
+pub returns-in_default-get : goal.returns-in_default-get
 unfolding byte_on word_at
-returns-then-text-at c = rw (c.in-At.is, drop-cons {A = ℕ} _ _ 0 c.if-at-text.true, eq-eqb _ _ c.if-text-at.true)
+returns-in_default-get c = rw (c.in-At.is, drop_of_length-le c.args.text.now c.in_default-get.ensures.lookup.3)
 
-pub returns-else-text-at : goal.returns-else-text-at
+pub returns-then-here-b : goal.returns-then-here-b
 unfolding byte_on word_at
-returns-else-text-at c = rw (c.in-At.is, drop-cons {A = ℕ} _ _ 0 c.if-at-text.true, ne_eqb _ _ c.if-text-at.false)
+returns-then-here-b c =
+    let (stands, is) = c.in-Some.ensures.lookup.3 in rw (c.in-At.is, drop-cons {A = ℕ} _ _ 0 stands, eq-eqb _ _ (sym (is 0) ∙ c.if-here-b.true))
 
-pub returns-else-at-text : goal.returns-else-at-text
+pub returns-else-here-b : goal.returns-else-here-b
 unfolding byte_on word_at
-returns-else-at-text c = rw (c.in-At.is, drop_of_length-le _ c.if-at-text.false)
+returns-else-here-b c =
+    let (stands, is) = c.in-Some.ensures.lookup.3 in rw (c.in-At.is, drop-cons {A = ℕ} _ _ 0 stands, ne_eqb _ _ (λ e. c.if-here-b.false (is 0 ∙ e)))

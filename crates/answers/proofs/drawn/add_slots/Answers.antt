@@ -1,33 +1,27 @@
--- `answers::drawn::add_slots` meets its contract. The loop's invariant: behind the first line stand the lines of the slots passed.
--- The measure is the count of slots left. Assumes nothing.
-use mathlib.Core.Path.{◌≡◌, refl, ◌∙◌}
-use native.Mathlib.Omega.{arith}
+-- `answers::drawn::add_slots` meets its contract: each turn adds one slot's line more. Assumes nothing.
+use mathlib.Core.Path.{◌≡◌, ◌∙◌}
+use mathlib.Core.Logic.{inl, inr}
 use lib.ListN.{length}
-use Rattle.rail.proofs.Added.{said, added, behind_none, behind_more}
+use borrow.Author.Rules.{rules}
+use Rattle.rail.proofs.Added.{added}
 use Rattle.answers.specs.Steps.{slots_by}
-use Rattle.answers.proofs.Joined.{joined_more}
+use Rattle.answers.proofs.Slots.{none_passed, one_passed, all_passed}
 use Rattle.answers.proofs.drawn.add_slots.Goals as goal
 
-pub loop-j-init : goal.loop-j-init
-unfolding slots_by
-loop-j-init c = (omega arith, refl, behind_none)
+pub loop-id-init : goal.loop-id-init
+loop-id-init c =
+    let a : c.into_iter-id-iterator.result.a.rest.now ≡ c.args.ids.now = search rules in
+    let b : c.into_iter-id-iterator.result.b.rest.now ≡ c.args.values.now = search rules in
+    rw (a, b) (none_passed _ _ c.requires)
 
-pub overflow_add-j : goal.overflow_add-j
-unfolding slots_by
-overflow_add-j c = omega arith
-
-pub loop-j-smaller : goal.loop-j-smaller
-unfolding slots_by
-loop-j-smaller c = omega arith
-
-pub loop-j-preserved : goal.loop-j-preserved
-unfolding slots_by
-loop-j-preserved c =
-    let l = c.loop-j in let w = added c.slot_line-n.ensures in
-    (omega arith, w.size ∙ l.invariant.1, rw joined_more (behind_more l.invariant.2 w))
+pub loop-id-preserved : goal.loop-id-preserved
+loop-id-preserved c =
+    let s = c.in-Some.ensures.steps in
+    one_passed _ _ (rw (s.0, s.1) at c.loop-id.invariant) (added c.slot_line.ensures)
 
 pub returns : goal.returns
 unfolding slots_by
 returns c =
-    let l = c.loop-j in let e : l.j ≡ length c.args.ids.now = omega arith in
-    said (l.invariant.2 _ _ _ (added c.lowered_line-n.ensures)) (rw e)
+    let p = c.loop-id.invariant in
+    let e : length c.loop-id.id-iterator.a.rest.now ≡ 0 = elim c.in-None.ensures.steps [ inl x ↦ x.1.0 | inr x ↦ p.even ∙ x.1.0 ] in
+    all_passed p e _ _ (added c.lowered_line.ensures)

@@ -1,17 +1,13 @@
--- `layout::push::store` meets its contract. The loop's invariant: i ids and i components are stored, and the rest of both slices is as it was.
--- The measure is the count of those left. Assumes nothing.
+-- `layout::push::store` meets its contract: what is put over a part is laid over the whole. Assumes nothing.
+use mathlib.Core.Path.{sym, ◌∙◌, ap}
 use native.Mathlib.Omega.{arith}
-use Rattle.layout.proofs.Storing.{store_start, store_turn, store_end}
+use Rattle.std.proofs.lemmas.Slice.{put_mid-paste}
+use Rattle.layout.specs.Slots.{size_of}
+use Rattle.layout.proofs.Runs.{components_length}
+use Rattle.layout.proofs.Storing.{whole}
 use Rattle.layout.proofs.push.store.Goals as goal
 
-pub loop-i-init : goal.loop-i-init
-loop-i-init c = store_start _ _ _ _ _
-
-pub loop-i-preserved : goal.loop-i-preserved
-loop-i-preserved c = store_turn _ _ _ _ _ _ _ _ _ c.loop-i.invariant (omega arith) (omega arith) (omega arith)
-
-pub returns-clause-ids : goal.returns-clause-ids
-returns-clause-ids c = (store_end _ _ _ _ _ _ _ _ _ c.loop-i.invariant (omega arith)).0
-
 pub returns-clause-values : goal.returns-clause-values
-returns-clause-values c = (store_end _ _ _ _ _ _ _ _ _ c.loop-i.invariant (omega arith)).1
+returns-clause-values g c =
+    let long = c.requires.3 ∙ sym (components_length (g.S.Shape.figure c.args.shape) ∙ ap size_of (g.met.S.Shape.is_of_kind c.args.shape)) in
+    whole _ _ _ c.args.at c.args.size long (put_mid-paste _ _ _ _ _ c.args.size c.put.ensures (omega arith) long)

@@ -1,7 +1,5 @@
--- What the loop keeps, and what falls.
-use mathlib.Core.Path.{◌≡◌}
-use Prim.Native.Nat.{◌-◌, ◌≤◌}
-use lib.ListN.{length, get_or}
+-- Whatever was added before the loop, the ids passed are added behind that.
+use Rattle.std.proofs.Common.{get_or}
 use Rattle.ground.specs.Lists.{up_to}
 use Rattle.print.specs.Print.{decimal_of}
 use Rattle.rail.specs.Words.{spaced}
@@ -9,7 +7,4 @@ use Rattle.rail.proofs.Added.{Behind}
 use Rattle.lines.proofs.drawn.row_opening.Given as goal
 
 abbrev pub invariant-loop-q : goal.invariant-loop-q
-invariant-loop-q l = (l.q ≤ l.count) × (length l.buf ≡ length l.initial.buf) × Behind l.write l.initial.n l.initial.buf (spaced (up_to l.q (λ i. decimal_of (get_or l.ids i 0)))) l.n l.buf
-
-abbrev pub decreases-loop-q : goal.decreases-loop-q
-decreases-loop-q l = l.count - l.q
+invariant-loop-q l = Behind l.initial.rail (spaced (up_to l.q (λ i. decimal_of (get_or l.r.ids i 0)))) l.rail

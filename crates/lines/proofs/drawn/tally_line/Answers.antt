@@ -5,5 +5,5 @@ use Rattle.lines.proofs.drawn.tally_line.Goals as goal
 
 pub returns : goal.returns
 returns c =
-    let l = c.args.name.now in let two = words_more l _ _ (both (added c.add-p.ensures) c.counted-p.ensures) c.counted-p-2.ensures in
-    both (words_more l _ _ (words_more l _ _ two c.counted-p-3.ensures) c.counted-p-4.ensures) (added c.add.ensures)
+    let l = c.args.name.now in let two = words_more l _ _ (both (added c.add.ensures) c.counted.ensures) c.counted-2.ensures in
+    both (words_more l _ _ (words_more l _ _ two c.counted-3.ensures) c.counted-4.ensures) (added c.add-2.ensures)

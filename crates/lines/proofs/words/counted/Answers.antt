@@ -4,4 +4,4 @@ use Rattle.rail.proofs.Spaced.{spaced_append}
 use Rattle.lines.proofs.words.counted.Goals as goal
 
 pub returns : goal.returns
-returns c = rw (← spaced_append) at (both (added c.word-p.ensures) (added c.decimal_word.ensures))
+returns c = rw (← spaced_append) at (both (added c.word.ensures) (added c.decimal_word.ensures))

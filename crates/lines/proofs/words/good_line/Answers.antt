@@ -7,5 +7,5 @@ use Rattle.lines.proofs.words.good_line.Goals as goal
 pub returns : goal.returns
 returns c =
     let w = bytes "instructions" in
-    let counts = words_more w _ _ (both (added c.add-p.ensures) (added c.decimal_word-p.ensures)) c.counted-p.ensures in
-    both (words_more w _ _ counts c.counted-p-2.ensures) (added c.add.ensures)
+    let counts = words_more w _ _ (both (added c.add.ensures) (added c.decimal_word.ensures)) c.counted.ensures in
+    both (words_more w _ _ counts c.counted-2.ensures) (added c.add-2.ensures)

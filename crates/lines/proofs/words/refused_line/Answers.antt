@@ -6,5 +6,5 @@ use Rattle.lines.proofs.words.refused_line.Goals as goal
 
 pub returns : goal.returns
 returns c =
-    both (words_more (bytes "refused") _ _ (both (added c.add-p.ensures) (added c.decimal_word-p.ensures))
-    (added c.decimal_word-p-2.ensures)) (added c.add.ensures)
+    both (words_more (bytes "refused") _ _ (both (added c.add.ensures) (added c.decimal_word.ensures)) (added c.decimal_word-2.ensures))
+    (added c.add-2.ensures)

@@ -1,6 +1,7 @@
--- `names::pieces::front` meets its contract: up to i there is no point, and the hash is that of what was passed. The measure is what is left.
--- Assumes nothing.
+-- `names::pieces::front` meets its contract: up to i there is no point, and the hash is that of what was passed. Assumes nothing.
+use mathlib.Core.Path.{◌≡◌}
 use native.Mathlib.Omega.{arith}
+use lib.ListN.{length}
 use Rattle.names.proofs.Cut.{front_none, front_end, front_stop, front_more}
 use Rattle.names.proofs.pieces.front.Goals as goal
 
@@ -20,4 +21,6 @@ pub loop-i-preserved : goal.loop-i-preserved
 loop-i-preserved c = let l = c.loop-i in front_more _ l.i l.hash l.invariant c.loop-i-test.true c.if-b-eq46.false
 
 pub returns : goal.returns
-returns c = let l = c.loop-i in front_end _ l.i l.hash l.invariant c.loop-i-test.false
+returns c =
+    let l = c.loop-i in let n : l.i ≡ length c.args.label.now = omega arith in
+    rw n at (front_end _ l.i l.hash l.invariant c.loop-i-test.false)

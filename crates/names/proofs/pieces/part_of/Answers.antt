@@ -1,12 +1,12 @@
--- `names::pieces::part_of` meets its contract: nothing, or the number of the suffix that it is. Assumes nothing.
-use mathlib.Core.List.{[]}
-use Rattle.names.proofs.Laws.{same_length}
-use Rattle.names.proofs.Cut.{part_none}
+-- `names::pieces::part_of` meets its contract: it is none of the suffixes that it was compared with. Assumes nothing.
+use mathlib.Core.Path.{sym, ◌∙◌}
+use lib.ListN.{length}
+use Rattle.refusal.proofs.Says.{fails, says_eq}
+use Rattle.names.proofs.Cut.{part_other}
 use Rattle.names.proofs.pieces.part_of.Goals as goal
-
-pub returns-then-rest-eq0 : goal.returns-then-rest-eq0
-returns-then-rest-eq0 c = rw (part_none c.args.rest.now c.if-rest-eq0.true)
 
 pub returns : goal.returns
 returns c =
-    rw (same_length c.args.rest.now [] c.if-rest-eq0.false, ← c.same.ensures, ← c.either-b.ensures, ← c.same-2.ensures, ← c.either-a.ensures, ← c.same-3.ensures, ← c.either-radius.ensures, ← c.same-4.ensures, ← c.either.ensures)
+    part_other c.args.rest.now (fails (says_eq (length c.args.rest.now) 0) (sym c.is_empty.ensures ∙ c.if-is_empty.false)) (rw c.as_slice.ensures at (sym c.eq.ensures ∙ c.if-eq.false))
+    (rw c.as_slice-2.ensures at (sym c.eq-2.ensures ∙ c.if-eq-2.false)) (rw c.as_slice-3.ensures at (sym c.eq-3.ensures ∙ c.if-eq-3.false))
+    (rw c.as_slice-4.ensures at (sym c.eq-4.ensures ∙ c.if-eq-4.false))

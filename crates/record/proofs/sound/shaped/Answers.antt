@@ -10,21 +10,21 @@ use Rattle.kinds.specs.Kinds.{kind_at, table, cell, labels_column, thirds_column
 use Rattle.record.specs.Record.{mark}
 use Rattle.record.specs.Steps.{head_by, shape_test}
 use Rattle.kinds.proofs.Table.{guess_labels}
-use Rattle.kinds.proofs.Cells.{looked, labels_is, thirds_is, number_is}
+use Rattle.kinds.proofs.Cells.{labels_is, thirds_is, number_is}
 use Rattle.refusal.proofs.Says.{says_and, says_if, says_eq, says_le, says_lt}
 use Rattle.record.proofs.sound.shaped.Goals as goal
 
 -- the head is tested by what the two cells that were looked up are
-head_is : {lent : List (List ℕ)} (k : ℕ) {labels thirds : ℕ} (b : List ℕ) {result : Bool} → lent ≡ table → labels ≡ cell lent k labels_column → thirds ≡ cell lent k thirds_column
+head_is : (k : ℕ) {labels thirds : ℕ} (b : List ℕ) {result : Bool} → labels ≡ cell table k labels_column → thirds ≡ cell table k thirds_column
     → result ≡ head_by labels thirds b → result ≡ head_by (kind_at k).labels (kind_at k).thirds b
-head_is k b is labels thirds tested =
-    let n = looked _ k _ _ is labels (labels_is k) in
-    let t = looked _ k _ _ is thirds (thirds_is k) in
+head_is k b labels thirds tested =
+    let n = labels ∙ labels_is k in
+    let t = thirds ∙ thirds_is k in
     tested ∙ λ i. head_by (n i) (t i) b
 
 pub returns-then-not-headed : goal.returns-then-not-headed
 unfolding shape_test
-returns-then-not-headed c = rw (← head_is _ _ c.requires.0 c.look-labels.ensures c.look-thirds.ensures c.headed.ensures, c.if-not-headed.true)
+returns-then-not-headed c = rw (← head_is _ _ c.cell_of-labels.ensures c.cell_of-thirds.ensures c.headed.ensures, c.if-not-headed.true)
 
 pub rest-requires : goal.rest-requires
 rest-requires c =
@@ -33,9 +33,9 @@ rest-requires c =
     let t = (kind_at k).thirds in
     let says = says_and (says_and (says_eq (byte b 0) mark) (says_and (says_lt 0 n) (says_eq (byte b 3) n)))
     (says_and (says_le (byte b 2) t) (says_if (says_lt 0 t) (says_lt 0 (byte b 2)))) in
-    let h = (says.so (sym (head_is k b c.requires.0 c.look-labels.ensures c.look-thirds.ensures c.headed.ensures) ∙ c.if-not-headed.false)).0.1 in
-    (c.requires.1, omega (arith, h.0, h.1), λ g. omega (arith, h.1, guess_labels k g), looked _ k _ _ c.requires.0 c.look-sort.ensures (number_is k))
+    let h = (says.so (sym (head_is k b c.cell_of-labels.ensures c.cell_of-thirds.ensures c.headed.ensures) ∙ c.if-not-headed.false)).0.1 in
+    (c.requires, omega (arith, h.0, h.1), λ g. omega (arith, h.1, guess_labels k g), c.cell_of-sort.ensures ∙ number_is k)
 
 pub returns : goal.returns
 unfolding shape_test
-returns c = rw (← head_is _ _ c.requires.0 c.look-labels.ensures c.look-thirds.ensures c.headed.ensures, c.if-not-headed.false) c.rest.ensures
+returns c = rw (← head_is _ _ c.cell_of-labels.ensures c.cell_of-thirds.ensures c.headed.ensures, c.if-not-headed.false) c.rest.ensures

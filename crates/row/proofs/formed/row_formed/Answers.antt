@@ -6,5 +6,5 @@ use Rattle.row.proofs.formed.row_formed.Goals as goal
 pub returns : goal.returns
 unfolding row_test
 returns c =
-    rw (mark_at c.args.rows.now c.args.i, ← row_there c.args.rows.now c.args.i c.requires.1, ← c.decode_row.ensures)
+    rw (mark_at c.args.rows.now c.args.i, ← row_there c.args.rows.now c.args.i c.requires, ← c.decode_row.ensures)
     (rw (← c.fields_formed.ensures))

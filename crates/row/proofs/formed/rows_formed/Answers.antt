@@ -1,4 +1,4 @@
--- `row::formed::rows_formed` meets its contract: the loop passes rows that are all well formed. The measure is what is left of them. Assumes nothing.
+-- `row::formed::rows_formed` meets its contract: the loop passes rows that are all well formed. Assumes nothing.
 use mathlib.Core.Path.{◌≡◌, refl, sym, ◌∙◌}
 use Prim.Native.Nat.{◌/◌, ◌%◌}
 use native.Mathlib.Numerals.{add-one}
@@ -17,7 +17,7 @@ returns-then-rows-ne0 c = sym (refuted (says_tested c.args.rows.now) (λ w. c.if
 
 pub loop-i-init : goal.loop-i-init
 unfolding rows_test
-loop-i-init c = (omega arith, refl)
+loop-i-init c = refl
 
 pub returns-then-not-row_formed : goal.returns-then-not-row_formed
 unfolding rows_test
@@ -25,20 +25,12 @@ returns-then-not-row_formed c =
     sym (refuted (says_tested c.args.rows.now)
     (λ w. fails says_so (sym c.row_formed.ensures ∙ c.if-not-row_formed.true) (w.1 c.loop-i.i (omega arith))))
 
-pub overflow_add-i : goal.overflow_add-i
-unfolding rows_test
-overflow_add-i c = omega arith
-
-pub loop-i-smaller : goal.loop-i-smaller
-unfolding rows_test
-loop-i-smaller c = omega arith
-
 pub loop-i-preserved : goal.loop-i-preserved
 unfolding rows_test
-loop-i-preserved c = (omega arith, rw (add-one, c.loop-i.invariant.1) (sym c.row_formed.ensures ∙ c.if-not-row_formed.false))
+loop-i-preserved c = rw (add-one, c.loop-i.invariant) (sym c.row_formed.ensures ∙ c.if-not-row_formed.false)
 
 pub returns : goal.returns
 unfolding rows_test
 returns c =
     let rows = c.args.rows.now in let all : length rows / row_bytes ≡ c.loop-i.i = omega arith in
-    rw (eq-eqb (length rows % row_bytes) 0 (omega arith), all) (sym c.loop-i.invariant.1)
+    rw (eq-eqb (length rows % row_bytes) 0 (omega arith), all) (sym c.loop-i.invariant)

@@ -1,14 +1,10 @@
--- What the loop keeps, and what falls.
+-- What the loop keeps.
 use mathlib.Core.Path.{◌≡◌}
 use mathlib.Core.Bool.{true}
-use Prim.Native.Nat.{◌-◌, ◌≤◌}
 use Rattle.refusal.specs.First.{all_below}
 use Rattle.row.specs.Row.{row_no}
 use Rattle.row.specs.Formed.{row_test}
 use Rattle.row.proofs.formed.rows_formed.Given as goal
 
 abbrev pub invariant-loop-i : goal.invariant-loop-i
-invariant-loop-i l = (l.i ≤ l.n) × (all_below l.i (λ j. row_test (row_no l.rows j)) ≡ true)
-
-abbrev pub decreases-loop-i : goal.decreases-loop-i
-decreases-loop-i l = l.n - l.i
+invariant-loop-i l = all_below l.i (λ j. row_test (row_no l.rows j)) ≡ true
