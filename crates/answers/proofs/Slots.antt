@@ -7,7 +7,7 @@ use lib.ListN.{length, get_or}
 use lib.Ieee.{Float, nan}
 use Rattle.ground.specs.Lists.{up_to}
 use Rattle.rail.specs.Words.{joined}
-use Rattle.rail.specs.Steps.{Added}
+use Rattle.rail.specs.Rail.{Added}
 use Rattle.rail.specs.declared.Rail.{Rail}
 use Rattle.rail.proofs.Added.{Behind, behind_none, behind_more}
 use Rattle.lines.specs.Drawn.{slot_line}

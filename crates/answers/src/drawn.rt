@@ -2,8 +2,7 @@
 ghost use Rattle.std.specs.Prelude.{◌≡◌, length};
 ghost use Rattle.reader.specs.Page.{lines_of};
 ghost use Rattle.drawing.specs.Check.{check_of};
-ghost use Rattle.rail.specs.Rail.{Printed};
-ghost use Rattle.rail.specs.Steps.{Added};
+ghost use Rattle.rail.specs.Rail.{Printed, Added};
 ghost use Rattle.answers.specs.Answers.{drawing_lines};
 ghost use Rattle.answers.specs.Steps.{Read, slots_by, lowered_by};
 

@@ -57,10 +57,10 @@ fn print(text: &[u8], way: Way, rail: &mut Rail)
 {
     let mut records = [0u8; ROOM];
     let reading = read(text, way, &mut records);
-    let Ok(read) = reading else {
+    let Ok(counts) = reading else {
         return lines::first_line(reading, rail);
     };
-    let n = (read.instructions + read.guesses) * SIZE;
+    let n = (counts.instructions + counts.guesses) * SIZE;
     tell(text, way, reading, &records[..n], rail);
 }
 

@@ -11,7 +11,7 @@ use Prim.Native.Nat.{ℕ, ◌-◌, ◌≤◌}
 use Rattle.rail.proofs.Spaced.{spaced_append}
 use Rattle.rail.specs.declared.Rail.{Rail}
 use Rattle.rail.specs.Words.{spaced}
-use Rattle.rail.specs.Steps.{Added}
+use Rattle.rail.specs.Rail.{Added}
 use Rattle.rail.proofs.Added.{both}
 
 -- words added behind words

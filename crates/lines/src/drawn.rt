@@ -3,7 +3,7 @@ ghost use Rattle.std.specs.Prelude.{◌≡◌, [], ◌∷◌, ◌++◌, get_or};
 ghost use Rattle.ground.specs.Lists.{up_to};
 ghost use Rattle.print.specs.Print.{decimal_of};
 ghost use Rattle.rail.specs.Words.{spaced};
-ghost use Rattle.rail.specs.Steps.{Added};
+ghost use Rattle.rail.specs.Rail.{Added};
 ghost use Rattle.row.specs.Row.{ids_in, meant};
 ghost use Rattle.lines.specs.Drawn.{tally_line, checked_line, lowered_line, slot_line, row_line};
 

@@ -6,7 +6,7 @@ ghost use Rattle.kinds.specs.Kinds.{kind_at};
 ghost use Rattle.record.specs.Entry.{named, entry_of};
 ghost use Rattle.rail.specs.Words.{newline, spaced};
 ghost use Rattle.lines.specs.Lines.{third_word, third_of, numbers_of, good_line, refused_line, first_line, line_of};
-ghost use Rattle.rail.specs.Steps.{Added};
+ghost use Rattle.rail.specs.Rail.{Added};
 
 use rail::{Piece, Rail};
 use reader::Reading;

@@ -12,8 +12,7 @@ use borrow.Author.Tests.{le-leb, lt-leb}
 use Rattle.std.specs.Prelude.{Option, Some, None}
 use Rattle.store.specs.Store.{written}
 use Rattle.store.proofs.Laws.{written_length, written_append}
-use Rattle.rail.specs.Rail.{next_place, put_at, Prints, Same, Printed}
-use Rattle.rail.specs.Steps.{Adds, Added}
+use Rattle.rail.specs.Rail.{next_place, put_at, Prints, Same, Printed, Adds, Added}
 use Rattle.rail.specs.declared.Rail.{Rail}
 
 -- ---- places

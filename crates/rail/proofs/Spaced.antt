@@ -3,8 +3,7 @@ use mathlib.Core.Path.{◌≡◌, refl}
 use mathlib.Core.List.{List, [], ◌∷◌, ◌++◌, append_assoc, append-nil}
 use Prim.Native.Nat.{ℕ}
 use Rattle.rail.specs.Words.{blank, spaced}
-use Rattle.rail.specs.Rail.{Printed}
-use Rattle.rail.specs.Steps.{Added}
+use Rattle.rail.specs.Rail.{Printed, Added}
 use Rattle.rail.specs.declared.Rail.{Rail}
 use Rattle.rail.proofs.Added.{added, both}
 

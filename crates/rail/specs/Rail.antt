@@ -1,5 +1,5 @@
 -- Bytes written into a lent buffer from a place on.
-use Rattle.std.specs.Prelude.{◌≡◌, Bool, cond, List, ℕ, ◌+◌, leb, length, Option, Some, None}
+use Rattle.std.specs.Prelude.{◌≡◌, Bool, true, false, cond, List, ℕ, ◌+◌, leb, length, Option, Some, None}
 use Rattle.store.specs.Store.{room, written}
 use Rattle.rail.specs.declared.Rail.{Rail}
 
@@ -28,4 +28,19 @@ pub record Same (r after : Rail) : Type 0 where
 -- a rail with bytes printed on it
 pub record Printed (r : Rail) (bs : List ℕ) (after : Rail) : Type 0 where
   pub prints : Prints r.write r.buf.now r.place bs after.place after.buf.now
+  pub same : Same r after
+
+-- ---- several pieces, one after the other
+
+-- bytes added where writing stands, in one step or in several: the next place is told, or none where there was no room for all. A buffer that
+-- is measured alone stays as it was; in one that is written they stand where there was room for all, and else it keeps its length alone
+pub record Adds (write : Bool) (d : List ℕ) (p : Option ℕ) (bs : List ℕ) (answer : Option ℕ) (after : List ℕ) : Type 0 where
+  pub told : answer ≡ next_place (length d) p (length bs)
+  pub size : length after ≡ length d
+  pub kept : write ≡ false → after ≡ d
+  pub put : write ≡ true → (n m : ℕ) → p ≡ Some n → answer ≡ Some m → after ≡ written d n bs
+
+-- a rail with bytes added on it: what a piece owes
+pub record Added (r : Rail) (bs : List ℕ) (after : Rail) : Type 0 where
+  pub adds : Adds r.write r.buf.now r.place bs after.place after.buf.now
   pub same : Same r after

@@ -6,8 +6,7 @@
 ghost use Rattle.std.specs.Prelude.{◌≡◌, [], ◌∷◌, List, ℕ};
 ghost use Rattle.print.specs.Print.{decimal_of, hex_of};
 ghost use Rattle.rail.specs.Words.{spaced};
-ghost use Rattle.rail.specs.Rail.{next_place, Printed};
-ghost use Rattle.rail.specs.Steps.{Added};
+ghost use Rattle.rail.specs.Rail.{next_place, Printed, Added};
 
 // Where writing stands after so many bytes, in a buffer of a size: the place of the next byte, or none, where there was no room.
 pub fn moved(size: usize, p: Option<usize>, len: usize) -> Option<usize>
