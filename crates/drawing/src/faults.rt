@@ -15,6 +15,7 @@ use kinds::{
     NUMBER_GUESS, NUMBER_PART, PAIR_GUESS, PAIR_PART, POINT, ROUND, cell_of,
 };
 use names::labels::kind_at;
+use names::read::wide;
 use names::{A, B, CENTER, GUESSES, NAMES, PARTS, RADIUS, SORTS, STEP, WHOLE};
 use record::{PLACES, SIZE};
 
@@ -86,7 +87,7 @@ impl Line<'_> {
         requires { q < label_places }
         ensures { result ≡ name_by self.now.names.now self.now.i q }
     {
-        self.names[self.i * PLACES + q] as usize
+        wide(self.names[self.i * PLACES + q])
     }
 
     // The guess at a place of the table, and 0 past its end.
@@ -94,7 +95,7 @@ impl Line<'_> {
         ensures { result ≡ get_or self.now.guesses.now k 0 }
     {
         let guesses = self.guesses;
-        guesses.get(k).copied().unwrap_or(0) as usize
+        wide(guesses.get(k).copied().unwrap_or(0))
     }
 
     // Whether a part of the shape that it declares has no guess.

@@ -14,6 +14,7 @@ use bits::from_bits;
 use kinds::{NEW_ARC, NEW_CIRCLE, NEW_POINT};
 use layout::{Arc, Circle, Layout, Point, Pushed};
 use names::labels::kind_at;
+use names::read::wide;
 use names::{A, B, CENTER, GUESSES, PARTS, RADIUS, WHOLE};
 use record::decode::decode_record;
 use record::{Record, SIZE};
@@ -34,7 +35,7 @@ impl Declared<'_> {
         requires { part < known_parts }
         ensures { result ≡ decode_at self.now.records.now (get_or self.now.guesses.now (self.now.i * known_parts + part) 0) }
     {
-        decode_record(self.records, self.guesses[self.i * PARTS + part] as usize)
+        decode_record(self.records, wide(self.guesses[self.i * PARTS + part]))
     }
 
     // The pair that a part of it starts at.
@@ -114,11 +115,13 @@ impl Shapes<'_> {
     fn push_all(&self, kind: u8, start: Pushed, ids: &mut [u32], values: &mut [f64]) -> Pushed
         ensures { laid_in result ids.new values.new ≡ pushed_of (numbers_in self.now.records.now self.now.guesses.now) kind (of_kind (kinds_of self.now.records.now) kind (records_in self.now.records.now)) (laid_in start ids.old values.old) }
     {
+        let records = self.records;
+        let guesses = self.guesses;
         let mut last = start;
-        for i in 0..self.records.len() / SIZE {
+        for i in 0..records.len() / SIZE {
             let shape = Declared {
-                records: self.records,
-                guesses: self.guesses,
+                records,
+                guesses,
                 i,
             };
             last = shape.push_if(kind, last, ids, values);

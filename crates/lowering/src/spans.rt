@@ -9,6 +9,7 @@ use crate::sheet::Sheet;
 use kinds::{ASSIGNED, NEW_ARC, NEW_CIRCLE, NEW_POINT, ROUND};
 use layout::{VARS_PER_ARC, VARS_PER_CIRCLE, VARS_PER_POINT};
 use names::labels::kind_at;
+use names::read::either;
 use names::{SORTS, STEP};
 use record::{MOST, SIZE};
 
@@ -40,14 +41,14 @@ fn size_by(kind: usize) -> usize
 fn center_by(kind: usize) -> usize
     ensures { (result ≡ center_by kind) × (result ≤ 4) }
 {
-    if kind == NEW_ARC as usize { 4 } else { 0 }
+    either(kind == NEW_ARC as usize, 4, 0)
 }
 
 // x or y in a pair.
 fn axis_at(third: u8) -> usize
     ensures { (result ≡ axis_at third) × (result ≤ 1) }
 {
-    if third == Y { 1 } else { 0 }
+    either(third == Y, 1, 0)
 }
 
 // What a name stands for, by the code of its place in the table of kinds and the third byte of its rule: x or y of a point or a center, or

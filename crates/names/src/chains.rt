@@ -1,8 +1,11 @@
 // Which record declares a label: chains of declarations by the hash of their labels, and a walk along one.
 ghost use Rattle.std.specs.Prelude.{◌≡◌, true, ◌≤◌, ◌<◌, length};
 ghost use Rattle.kinds.specs.Kinds.{new_point, new_arc};
+ghost use Rattle.record.specs.Record.{most_records};
+ghost use Rattle.record.specs.Decode.{count_of as records_in};
 ghost use Rattle.names.specs.Labels.{drawn, labelled};
-ghost use Rattle.names.specs.Chains.{hash_of, hashed, first_from, NextsFrom, Chained};
+ghost use Rattle.names.specs.Chains.{chains, hash_of, hashed, first_from, NextsFrom, Chained};
+ghost use Rattle.names.specs.Steps.{FilledWith};
 
 use crate::laid::Laid;
 use crate::pieces::front;
@@ -20,23 +23,21 @@ pub(crate) struct Chains {
 }
 
 impl Chains {
-    // The chains of the declarations: from the last record to the first, each goes to the front of its chain.
-    pub(crate) fn of(page: &Laid) -> Self
-        ensures { Chained (drawn page.now.text.now page.now.records.now) result.heads result.nexts }
+    // Links the declarations: from the last record to the first, each goes to the front of its chain.
+    pub(crate) fn link(&mut self, page: &Laid)
+        requires { FilledWith chains (records_in page.now.records.now) self.old.heads × (length self.old.nexts ≡ most_records) }
+        ensures { Chained (drawn page.now.text.now page.now.records.now) self.new.heads self.new.nexts }
     {
         let n = page.count();
-        let mut heads = [n as u16; HEADS];
-        let mut nexts = [n as u16; MOST];
         for i in (0..n).rev() {
             let declares = page.kind(i) <= NEW_ARC;
             if declares {
                 let f = front(page.label(i, 0));
                 let hash = f.hash;
-                nexts[i] = heads[hash];
-                heads[hash] = i as u16;
+                self.nexts[i] = self.heads[hash];
+                self.heads[hash] = i as u16;
             }
         }
-        Chains { heads, nexts }
     }
 
     // The first record from one of a chain on that declares a label, or the number of records. No `for`: it goes by the table of nexts.

@@ -18,12 +18,13 @@ ghost use Rattle.names.specs.Names.{name_for, name_places, names_of, guess_place
 ghost use Rattle.names.specs.Chains.{Chained};
 ghost use Rattle.names.specs.Steps.{FilledWith, NamedUpTo, Inside, NotedFrom};
 
-use chains::Chains;
+use chains::{Chains, HEADS};
 use kinds::{LABELS, PAIR_GUESS, cell_of};
 use labels::kind_of;
 use laid::Laid;
 use pieces::{front, part_of};
-use record::{PLACES, SIZE};
+use read::wide;
+use record::{MOST, PLACES, SIZE};
 
 // The parts that can stand behind a shape's label, nothing among them.
 pub const WHOLE: usize = 0;
@@ -58,7 +59,7 @@ fn name_of(page: &Laid, chains: &Chains, label: &[u8]) -> u16
     let f = front(label);
     let len = f.len;
     let hash = f.hash;
-    let d = chains.walk(page, &label[..len], chains.heads[hash] as usize);
+    let d = chains.walk(page, &label[..len], wide(chains.heads[hash]));
     if page.count() <= d {
         return 0;
     }
@@ -92,7 +93,7 @@ fn note(records: &[u8], names: &[u16; NAMES], guesses: &mut [u16; GUESSES])
     ensures { NotedFrom records.now names.now 0 guesses.new }
 {
     for i in (0..records.len() / SIZE).rev() {
-        let name = names[i * PLACES] as usize;
+        let name = wide(names[i * PLACES]);
         let part = name % SORTS;
         if (PAIR_GUESS <= kind_of(records, i)) & ((0 < name) & (part < PARTS)) {
             guesses[name / STEP * PARTS + part] = i as u16;
@@ -112,10 +113,15 @@ pub fn resolve(
     let Some(page) = Laid::of(text, records) else {
         return false;
     };
-    let chains = Chains::of(&page);
+    let n = page.count() as u16;
+    let mut chains = Chains {
+        heads: [n; HEADS],
+        nexts: [n; MOST],
+    };
+    chains.link(&page);
     names.fill(0);
     name_all(&page, &chains, names);
-    guesses.fill(page.count() as u16);
+    guesses.fill(n);
     note(records, names, guesses);
     true
 }

@@ -1,4 +1,4 @@
-// What the tables are read by; `wide_only` and `either_only` speak of these two.
+// What the tables are read by.
 ghost use Rattle.std.specs.Prelude.{◌≡◌, cond};
 
 // A number of two bytes.

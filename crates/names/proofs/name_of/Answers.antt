@@ -1,6 +1,6 @@
 -- `names::name_of` meets its contract: the walk begins at the head of the chain of the label's hash, and what it finds is the declaring
 -- record. Assumes nothing.
-use mathlib.Core.Path.{◌≡◌, refl, sym, ap, ◌∙◌}
+use mathlib.Core.Path.{◌≡◌, sym, ap, ◌∙◌}
 use Prim.Native.Nat.{ℕ, ◌+◌, ◌-◌, ◌*◌, ◌≤◌, ◌<◌}
 use native.Mathlib.Omega.{arith}
 use lib.ListN.{length, get_or, take, drop}
@@ -57,13 +57,13 @@ slice_bounds-walk-end c = sym (length-take-le _ _ (short c.args.label.now _ _ c.
 pub walk-d-requires : goal.walk-d-requires
 walk-d-requires c =
     let p = c.front-f.ensures in
-    let f = start_first _ (stem c.args.label.now) _ _ c.requires _ (start_is c.args.label.now _ _ p _ _ refl) (hash_small c.args.label.now _ _ p) in
+    let f = start_first _ (stem c.args.label.now) _ _ c.requires _ (start_is c.args.label.now _ _ p _ _ c.wide.ensures) (hash_small c.args.label.now _ _ p) in
     rw (front_is c.args.label.now _ _ p) (c.requires.next, f.up_to, f.passes)
 
 pub returns-then-count-d : goal.returns-then-count-d
 returns-then-count-d c =
     let a = c.args in
-    let at = found c.args.label.now _ _ c.front-f.ensures _ _ _ _ _ c.requires refl c.walk-d.ensures in
+    let at = found c.args.label.now _ _ c.front-f.ensures _ _ _ _ _ c.requires c.wide.ensures c.walk-d.ensures in
     sym (name_none _ a.label.now (omega (arith, c.if-count-d.true, at, drawn_length a.page.now.text.now a.page.now.records.now, c.count.ensures)))
 
 pub slice_bounds-part_of-count : goal.slice_bounds-part_of-count
@@ -75,20 +75,20 @@ slice_bounds-part_of-start c = omega (arith, short c.args.label.now _ _ c.front-
 pub overflow_add-result-2 : goal.overflow_add-result-2
 overflow_add-result-2 c =
     let p = c.front-f.ensures in
-    let at = found c.args.label.now _ _ p _ _ _ _ _ c.requires refl c.walk-d.ensures in
+    let at = found c.args.label.now _ _ p _ _ _ _ _ c.requires c.wide.ensures c.walk-d.ensures in
     let s = sum c.args.label.now _ _ p (drawn c.args.page.now.text.now c.args.page.now.records.now) _ _ _ (rw drawn_length (laid_by _ _ c.args.page.now.laid).few) (rw (drawn_length, ← c.count.ensures) c.if-count-d.false) at (c.kind.ensures ∙ sym (drawn_kind _ _ _)) c.part_of.ensures in
     omega (arith, s)
 
 pub overflow_cast-result-2 : goal.overflow_cast-result-2
 overflow_cast-result-2 c =
     let p = c.front-f.ensures in
-    let at = found c.args.label.now _ _ p _ _ _ _ _ c.requires refl c.walk-d.ensures in
+    let at = found c.args.label.now _ _ p _ _ _ _ _ c.requires c.wide.ensures c.walk-d.ensures in
     let s = sum c.args.label.now _ _ p (drawn c.args.page.now.text.now c.args.page.now.records.now) _ _ _ (rw drawn_length (laid_by _ _ c.args.page.now.laid).few) (rw (drawn_length, ← c.count.ensures) c.if-count-d.false) at (c.kind.ensures ∙ sym (drawn_kind _ _ _)) c.part_of.ensures in
     omega (arith, s)
 
 pub returns : goal.returns
 returns c =
     let p = c.front-f.ensures in
-    let at = found c.args.label.now _ _ p _ _ _ _ _ c.requires refl c.walk-d.ensures in
+    let at = found c.args.label.now _ _ p _ _ _ _ _ c.requires c.wide.ensures c.walk-d.ensures in
     let s = sum c.args.label.now _ _ p (drawn c.args.page.now.text.now c.args.page.now.records.now) _ _ _ (rw drawn_length (laid_by _ _ c.args.page.now.laid).few) (rw (drawn_length, ← c.count.ensures) c.if-count-d.false) at (c.kind.ensures ∙ sym (drawn_kind _ _ _)) c.part_of.ensures in
     s.1

@@ -1,6 +1,6 @@
 -- `names::note` meets its contract: the table holds the lowest of the records from i on that guess each part. Assumes
 -- nothing.
-use mathlib.Core.Path.{◌≡◌, refl}
+use mathlib.Core.Path.{◌≡◌, ap}
 use mathlib.Core.Bool.{true, ◌&&◌}
 use mathlib.Core.List.{List}
 use Prim.Native.Nat.{ℕ, ◌≤◌, ◌+◌, ◌-◌, ◌<◌}
@@ -42,26 +42,26 @@ pub overflow_cast-guesses : goal.overflow_cast-guesses
 overflow_cast-guesses c = omega (arith, c.requires.0)
 
 pub overflow_mul-guesses : goal.overflow_mul-guesses
-overflow_mul-guesses c = omega (arith, place_inside _ _ _ _ c.requires.1 refl c.if-kind_of-name.true)
+overflow_mul-guesses c = omega (arith, place_inside _ _ _ _ c.requires.1 c.wide-name.ensures c.if-kind_of-name.true)
 
 pub overflow_add-guesses : goal.overflow_add-guesses
-overflow_add-guesses c = omega (arith, place_inside _ _ _ _ c.requires.1 refl c.if-kind_of-name.true)
+overflow_add-guesses c = omega (arith, place_inside _ _ _ _ c.requires.1 c.wide-name.ensures c.if-kind_of-name.true)
 
 pub offset_bounds-guesses-name : goal.offset_bounds-guesses-name
-offset_bounds-guesses-name c = omega (arith, place_inside _ _ _ _ c.requires.1 refl c.if-kind_of-name.true)
+offset_bounds-guesses-name c = omega (arith, place_inside _ _ _ _ c.requires.1 c.wide-name.ensures c.if-kind_of-name.true)
 
 pub bounds-guesses-name : goal.bounds-guesses-name
-bounds-guesses-name c = place_inside _ _ _ _ c.requires.1 refl c.if-kind_of-name.true
+bounds-guesses-name c = place_inside _ _ _ _ c.requires.1 c.wide-name.ensures c.if-kind_of-name.true
 
 pub loop-i-preserved-then-kind_of-name : goal.loop-i-preserved-then-kind_of-name
 loop-i-preserved-then-kind_of-name c =
     let (there, so) = so_far _ _ _ _ c.loop-i-test.true c.loop-i.auto.i c.loop-i.invariant in
-    noted_in _ _ _ _ there so _ refl (rw c.kind_of.ensures at c.if-kind_of-name.true) (place_inside _ _ _ _ c.requires.1 refl c.if-kind_of-name.true)
+    noted_in _ _ _ _ there so _ (ap place_by c.wide-name.ensures) (rw (c.kind_of.ensures, c.wide-name.ensures) at c.if-kind_of-name.true) (place_inside _ _ _ _ c.requires.1 c.wide-name.ensures c.if-kind_of-name.true)
 
 pub loop-i-preserved : goal.loop-i-preserved
 loop-i-preserved c =
     let (there, so) = so_far _ _ _ _ c.loop-i-test.true c.loop-i.auto.i c.loop-i.invariant in
-    noted_out _ _ _ _ there so (rw c.kind_of.ensures at c.if-kind_of-name.false)
+    noted_out _ _ _ _ there so (rw (c.kind_of.ensures, c.wide-name.ensures) at c.if-kind_of-name.false)
 
 pub returns : goal.returns
 returns c =

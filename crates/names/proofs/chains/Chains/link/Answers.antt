@@ -1,5 +1,5 @@
--- `names::chains::Chains::of` meets its contract: the tables hold the chains of the records from i on. Assumes nothing.
-use mathlib.Core.Path.{◌≡◌, refl}
+-- `names::chains::Chains::link` meets its contract: the tables hold the chains of the records from i on. Assumes nothing.
+use mathlib.Core.Path.{◌≡◌}
 use mathlib.Core.Bool.{true}
 use Prim.Native.Nat.{◌+◌, ◌-◌, ◌≤◌, ◌<◌}
 use native.Mathlib.Omega.{arith}
@@ -10,28 +10,20 @@ use Rattle.record.specs.Decode.{count_of}
 use Rattle.names.specs.Labels.{drawn, kind_no, within}
 use Rattle.names.proofs.Laws.{says_within}
 use Rattle.names.proofs.First.{firsts_none}
-use Rattle.names.proofs.Tables.{filled}
-use Rattle.names.specs.Chains.{chains}
 use Rattle.names.proofs.Drawn.{laid_by, known_at, labels_some, drawn_length, drawn_kind}
 use Rattle.names.proofs.Links.{links_out, links_in}
-use Rattle.names.proofs.chains.Chains.of.Goals as goal
-
-pub overflow_cast-heads : goal.overflow_cast-heads
-overflow_cast-heads c = omega (arith, c.count-n.ensures, (laid_by _ _ c.args.page.now.laid).few)
-
-pub overflow_cast-nexts : goal.overflow_cast-nexts
-overflow_cast-nexts c = omega (arith, c.count-n.ensures, (laid_by _ _ c.args.page.now.laid).few)
+use Rattle.names.proofs.chains.Chains.link.Goals as goal
 
 pub loop-i-init : goal.loop-i-init
 loop-i-init c =
-    let p = c.args.page.now in let n = drawn_length p.text.now p.records.now in let few = (laid_by _ _ p.laid).few in
-    (record { head = firsts_none _ _ _ _ _ (omega (arith, n, c.count-n.ensures)) (filled chains _ _ chains refl refl); next = λ i a b. absurd (omega (arith, a, b, n, c.count-n.ensures)) }, refl)
+    let p = c.args.page.now in let n = drawn_length p.text.now p.records.now in
+    (record { head = firsts_none _ _ _ _ _ (omega (arith, n, c.count-n.ensures)) (rw c.count-n.ensures c.requires.0); next = λ i a b. absurd (omega (arith, a, b, n, c.count-n.ensures)) }, c.requires.1)
 
-pub bounds-nexts-i : goal.bounds-nexts-i
-bounds-nexts-i c = omega (arith, c.count-n.ensures, (laid_by _ _ c.args.page.now.laid).few)
+pub bounds-self-i : goal.bounds-self-i
+bounds-self-i c = omega (arith, c.count-n.ensures, (laid_by _ _ c.args.page.now.laid).few)
 
-pub overflow_cast-heads-then-declares : goal.overflow_cast-heads-then-declares
-overflow_cast-heads-then-declares c = omega (arith, c.count-n.ensures, (laid_by _ _ c.args.page.now.laid).few)
+pub overflow_cast-self : goal.overflow_cast-self
+overflow_cast-self c = omega (arith, c.count-n.ensures, (laid_by _ _ c.args.page.now.laid).few)
 
 pub kind-declares-requires : goal.kind-declares-requires
 kind-declares-requires c = omega (arith, c.count-n.ensures)

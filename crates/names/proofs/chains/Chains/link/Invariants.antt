@@ -4,7 +4,7 @@ use lib.ListN.{length}
 use Rattle.record.specs.Record.{most_records}
 use Rattle.names.specs.Labels.{drawn}
 use Rattle.names.specs.Chains.{ChainedFrom}
-use Rattle.names.proofs.chains.Chains.of.Given as goal
+use Rattle.names.proofs.chains.Chains.link.Given as goal
 
 abbrev pub invariant-loop-i : goal.invariant-loop-i
-invariant-loop-i l = ChainedFrom (drawn l.page.text.now l.page.records.now) l.i l.heads l.nexts × (length l.nexts ≡ most_records)
+invariant-loop-i l = ChainedFrom (drawn l.page.text.now l.page.records.now) l.i l.self.heads l.self.nexts × (length l.self.nexts ≡ most_records)
