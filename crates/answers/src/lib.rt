@@ -77,7 +77,7 @@ pub fn answer(text: &[u8], way: Way, out: &mut [u8]) -> Option<usize>
     rail.place
 }
 
-// Writes the listing of a page, which has to be the whole text. This and the two below, `answer` with one way each, stay for their promises.
+// Writes the listing of a page, which has to be the whole text.
 #[tactic(auto, unfolding(crate::specs::Answers::answer_of))]
 pub fn listing(text: &[u8], out: &mut [u8]) -> Option<usize>
     ensures { Prints true out.old (Some 0) (listing_of true text.now) result out.new }

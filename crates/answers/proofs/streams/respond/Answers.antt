@@ -11,13 +11,13 @@ pub returns-in-Some : goal.returns-in-Some
 returns-in-Some g c =
     let read = c.in_ok-n.ensures in
     let size = c.read_full.auto.buf ∙ length-replicate {0} {A = ℕ} most_read 0 in
-    let is = whole_sent (length-replicate {0} {A = ℕ} longest_answer 0) c.answer.ensures _ c.in-Some.is in
+    let is = whole_sent (length-replicate {0} {A = ℕ} longest_answer 0) c.tell.ensures _ c.in-Some.is in
     on_ok c.write_all.result (λ told. responds c.in_ok-n.n c.read_full.new.buf size read.within read.bytes read.whole (rw is told)) c.write_all.ensures.bytes
 
 pub returns-in-None : goal.returns-in-None
 returns-in-None g c =
     let read = c.in_ok-n.ensures in
     let size = c.read_full.auto.buf ∙ length-replicate {0} {A = ℕ} most_read 0 in
-    let is = none_sent (length-replicate {0} {A = ℕ} longest_answer 0) c.answer.ensures c.in-None.is in
+    let is = none_sent (length-replicate {0} {A = ℕ} longest_answer 0) c.tell.ensures c.in-None.is in
     on_ok c.write_all-in-None.result (λ told. responds c.in_ok-n.n c.read_full.new.buf size read.within read.bytes read.whole (rw is told))
     c.write_all-in-None.ensures.bytes
