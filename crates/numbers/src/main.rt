@@ -37,10 +37,18 @@ fn asked(line: &[u8]) -> Option<u64> {
     Some(bits)
 }
 
+// Prints the sixteen hex digits of a number at once: `{:016x}` would write the zeros before it by themselves.
+fn put_hex<W: Write>(out: &mut W, n: u64) -> io::Result<()> {
+    out.write_all(&print::hex(n))
+}
+
 // Prints what an expression gave.
 fn put_number<W: Write>(out: &mut W, read: Number) -> io::Result<()> {
     match read.then {
-        Stand::At(next) => write!(out, "{:016x} {next}", read.bits),
+        Stand::At(next) => {
+            put_hex(out, read.bits)?;
+            write!(out, " {next}")
+        }
         Stand::Nothing => out.write_all(b"nothing"),
         Stand::Refused(refusal) => write!(out, "refused {} {}", refusal.number, refusal.place),
     }
@@ -49,7 +57,7 @@ fn put_number<W: Write>(out: &mut W, read: Number) -> io::Result<()> {
 // Prints the answer to a line.
 fn answer<W: Write>(out: &mut W, line: &[u8]) -> io::Result<()> {
     match asked(line) {
-        Some(bits) => write!(out, "{:016x}", root::root_bits(bits))?,
+        Some(bits) => put_hex(out, root::root_bits(bits))?,
         None => put_number(out, number::parse_number_expr(line, Stand::At(0)))?,
     }
     out.write_all(b"\n")

@@ -35,12 +35,13 @@ struct Told {
     parts: [u64; PARTS],
 }
 
-// Prints a number after a blank: an id by its digits, a value by its bits.
+// Prints a number after a blank: an id by its digits, a value by its bits, whole: `{:016x}` would write the zeros before it by themselves.
 fn put_number<W: Write>(out: &mut W, n: u64, is_id: bool) -> io::Result<()> {
     if is_id {
         write!(out, " {n}")
     } else {
-        write!(out, " {n:016x}")
+        out.write_all(b" ")?;
+        out.write_all(&print::hex(n))
     }
 }
 
@@ -226,15 +227,17 @@ fn steps<W: Write>(
     values: &mut [f64],
 ) -> io::Result<Now> {
     let letter = text::byte_at(line, 0);
+    let last = number(line, 2) % IDS;
+    let mut now = now;
     let mut v = std::num::nearest_u64_to_f64(number(line, 1));
-    let mut told = step(letter, now, ids, values, v);
-    let mut now = after(letter, now, told);
-    for _ in 0..number(line, 2) % IDS {
-        v += 1.0;
-        told = step(letter, now, ids, values, v);
+    for k in 0..last + 1 {
+        let told = step(letter, now, ids, values, v);
         now = after(letter, now, told);
+        if k == last {
+            put_step(out, letter, told)?;
+        }
+        v += 1.0;
     }
-    put_step(out, letter, told)?;
     Ok(now)
 }
 

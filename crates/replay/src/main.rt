@@ -64,7 +64,9 @@ fn read_text<R: Read>(input: &mut R, text: &mut [u8]) -> Result<(), Stop> {
     }
 }
 
-// Prints what is asked of a text, by way of room for it, and a line `.`.
+// Prints what is asked of a text, by way of room for it, and a line `.`. It is never inlined: only a batch with a text needs the stack of an
+// answer.
+#[inline(never)]
 fn put<W: Write>(output: &mut W, text: &[u8], way: Way, out: &mut [u8]) -> Result<(), Stop> {
     let Some(end) = answers::answer(text, way, out) else {
         return Err(Stop::Long);
