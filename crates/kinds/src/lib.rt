@@ -87,7 +87,7 @@ const ROWS: usize = 26;
 const COLUMNS: usize = 8;
 
 // A row for each kind, indexed by its number; row 0 is no kind.
-pub static KINDS: [[u8; COLUMNS]; ROWS] = [
+pub const KINDS: [[u8; COLUMNS]; ROWS] = [
     [0, UNUSED, UNUSED, UNUSED, UNUSED, ZERO, NONE, PLAIN], // 0 no kind
     [1, NEW, UNUSED, UNUSED, UNUSED, ZERO, NONE, PLAIN], // 1 DeclarePoint
     [1, NEW, UNUSED, UNUSED, UNUSED, ZERO, NONE, PLAIN], // 2 DeclareCircle
@@ -116,6 +116,9 @@ pub static KINDS: [[u8; COLUMNS]; ROWS] = [
     [1, NUMBER_PART, UNUSED, UNUSED, UNUSED, ZERO, NUMBER, DOTTED], // 25 scalar guess
 ];
 
+// The table where it lies, so that no look copies it.
+static TABLE: [[u8; COLUMNS]; ROWS] = KINDS;
+
 // A cell of a table of kinds, and 0 past its end.
 #[tactic(auto, unfolding(crate::specs::Kinds::cell))]
 pub fn look(kinds: &[[u8; COLUMNS]; ROWS], kind: u8, column: usize) -> u8
@@ -133,7 +136,7 @@ pub fn look(kinds: &[[u8; COLUMNS]; ROWS], kind: u8, column: usize) -> u8
 pub fn cell_of(kind: u8, column: usize) -> u8
     ensures { result ≡ cell table kind column }
 {
-    look(&KINDS, kind, column)
+    look(&TABLE, kind, column)
 }
 
 // The words of the kinds' forms, indexed by a kind's number; none for a form that begins with a label.
