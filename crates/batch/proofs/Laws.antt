@@ -1,9 +1,11 @@
--- The laws of a header line: whether it starts with a word, and a number with one digit more. Assumes nothing.
-use Rattle.std.proofs.Common.{◌≡◌, ℕ, ◌+◌, ◌<◌, ◌≤◌, eqb, List, [], ◌∷◌, length, drop, get_or, Some, None, refl, sym, arith, add-one, drop_of_length-le, drop-cons, lt-ltb, le-ltb}
+-- The laws of a header line: whether it starts with a word, or a word was read, and a number with one digit more. Assumes nothing.
+use Rattle.std.proofs.Common.{◌≡◌, ℕ, ◌+◌, ◌<◌, ◌≤◌, eqb, Bool, true, false, cond, List, [], ◌∷◌, length, drop, get_or, Some, None, refl, sym, arith, add-one, drop_of_length-le, drop-cons, lt-ltb, le-ltb}
 use Rattle.std.specs.List.{starts_with}
 use native.Mathlib.Decide.{dec_le, ℕ_discrete}
 use borrow.Author.Tests.{eq-eqb, ne_eqb}
-use Rattle.text.specs.Text.{starts}
+use Rattle.text.specs.declared.Stand.{Stand}
+use Rattle.text.specs.declared.Stand.TheVariants.{At, Nothing}
+use Rattle.text.specs.Text.{starts, word_at, word_on}
 use Rattle.batch.specs.Header.{most_bytes, sized, one_more, size_after}
 
 -- a list starts with another by the library's test too
@@ -14,6 +16,24 @@ starts_is (b ∷ w) (c ∷ s) = elim (ℕ_discrete b c) [
   | yes e ↦ rw (e, eq-eqb c c refl) (starts_is w s)
   | no f ↦ rw (ne_eqb b c f, ne_eqb c b (λ e. f (sym e)))
 ]
+
+-- a word was read exactly where the list starts with it
+module _ (s w : List ℕ) (x : Stand) (e : x ≡ word_on s (At 0) w) where
+  pub word_stands : (n : ℕ) → x ≡ At n → true ≡ starts w s
+  unfolding word_on word_at
+  word_stands n f = go (starts w s) e
+    where
+      go : (t : Bool) → x ≡ cond t (At (0 + length w)) Nothing → true ≡ t
+      go true g = refl
+      go false g = cc
+
+  pub word_lacks : ((n : ℕ) → x ≡ At n → ⊥) → false ≡ starts w s
+  unfolding word_on word_at
+  word_lacks h = go (starts w s) e
+    where
+      go : (t : Bool) → x ≡ cond t (At (0 + length w)) Nothing → false ≡ t
+      go false g = refl
+      go true g = absurd (h (0 + length w) g)
 
 -- ---- numbers
 

@@ -1,5 +1,5 @@
 -- The tests of a layout, case by case, for a shape of any kind. Assumes nothing.
-use mathlib.Core.Path.{◌≡◌, refl, ap}
+use mathlib.Core.Path.{◌≡◌, refl, ap, ◌∙◌}
 use mathlib.Core.Bool.{Bool, true, false, not, ◌&&◌, ◌||◌, and-false}
 use Prim.Native.Nat.{ℕ, zero, suc, ◌+◌, ◌-◌, ◌≤◌, ◌<◌}
 use native.Mathlib.Omega.{arith}
@@ -13,7 +13,7 @@ use Rattle.layout.specs.declared.ShapeKind.{ShapeKind}
 use Rattle.layout.specs.declared.ShapeKind.TheVariants.{Point, Circle, Arc}
 use Rattle.layout.specs.declared.Layout.{Layout}
 use Rattle.layout.specs.Slots.{size_of, shapes_in, with_one, slot_count, slot_of, stage_number, stage_due, most_shapes, ids_end}
-use Rattle.layout.specs.Steps.{Small}
+use Rattle.layout.specs.Steps.{Small, next_after}
 use Rattle.layout.specs.declared.Pushed.{Pushed}
 use Rattle.refusal.specs.declared.Refusal.{Refusal}
 use Rattle.refusal.specs.First.{passed, answered}
@@ -117,14 +117,18 @@ module _ (k : ShapeKind) (vs : List Float) (s : State) (place : Result ℕ Refus
       let here = placed (told_in k s) (slot_count s.layout) place asked at e in
       record { answer = cc; ids_are = cc; values_are = cc }
 
--- the next id of a good answer is the state's, and a refusal leaves it
+-- the next id that an answer says is the state's
+pub next_is : (k : ShapeKind) (vs : List Float) (s : State) (r : Result Pushed Refusal) (ids : List ℕ) (values : List Float) → Fills k vs s r ids values → next_after r s.next ≡ (pushed k vs s).next
+next_is k vs s r ids values f =
+    ap (λ (z : Result Pushed Refusal). next_after z s.next) f.answer
+    ∙ answered_pair reason_number (λ (z : Result Pushed Refusal) (t : State). next_after z s.next ≡ t.next) _ _ (told_in k s) _ _ (λ r. refl) (λ c. refl)
+
+-- that of a good answer, and that of the state, which a refusal leaves
 pub good_next : (k : ShapeKind) (vs : List Float) (s : State) (p : Pushed) (ids : List ℕ) (values : List Float) → Fills k vs s (Ok p) ids values → p.next ≡ (pushed k vs s).next
-good_next k vs s p ids values f =
-    answered_pair reason_number (λ (z : Result Pushed Refusal) (t : State). Ok p ≡ z → p.next ≡ t.next) _ _ (told_in k s) _ _ (λ r e. absurd cc) (λ c e. cc) f.answer
+good_next k vs s p = next_is k vs s (Ok p)
 
 pub refused_next : (k : ShapeKind) (vs : List Float) (s : State) (r : Refusal) (ids : List ℕ) (values : List Float) → Fills k vs s (Err r) ids values → s.next ≡ (pushed k vs s).next
-refused_next k vs s r ids values f =
-    answered_pair reason_number (λ (z : Result Pushed Refusal) (t : State). Err r ≡ z → s.next ≡ t.next) _ _ (told_in k s) _ _ (λ r e. refl) (λ c e. absurd cc) f.answer
+refused_next k vs s r = next_is k vs s (Err r)
 
 -- ---- `done`
 

@@ -1,9 +1,12 @@
--- What mirrors the code and need not be read: counts for which its sums fit, its reasons, and the stage that is stepped to.
-use Rattle.std.specs.Prelude.{ℕ, ◌≤◌, Option, Some, None}
+-- What mirrors the code and need not be read: counts for which its sums fit, the next id by a push's answer, its reasons, and the stage that
+-- is stepped to.
+use Rattle.std.specs.Prelude.{ℕ, ◌≤◌, Option, Some, None, Result, Ok, Err}
 use Rattle.layout.specs.declared.ShapeKind.TheVariants as K
 use Rattle.layout.specs.declared.Stage.{Stage}
 use Rattle.layout.specs.declared.Stage.TheVariants.{Points, Circles, Arcs, Done}
 use Rattle.layout.specs.declared.Layout.{Layout}
+use Rattle.layout.specs.declared.Pushed.{Pushed}
+use Rattle.refusal.specs.declared.Refusal.{Refusal}
 use Rattle.layout.specs.declared.check.Reason as code
 use Rattle.layout.specs.declared.check.Reason.TheVariants as R
 use Rattle.layout.specs.Slots.{most_shapes, size_of}
@@ -18,6 +21,11 @@ pub record Small (l : Layout) : Type 0 where
 -- the most slots of a shape
 abbrev pub most_size : ℕ
 most_size = size_of K.Arc
+
+-- the next id after a push's answer
+abbrev pub next_after : Result Pushed Refusal → ℕ → ℕ
+next_after (Ok p) next = p.next
+next_after (Err r) next = next
 
 -- the next stage, if there is one
 abbrev pub next_stage : Stage → Option Stage
