@@ -1,11 +1,27 @@
 -- The laws of bytes put into a buffer. Assumes nothing.
-use mathlib.Core.Path.{◌≡◌, refl, ap, ◌∙◌}
+use mathlib.Core.Path.{◌≡◌, refl, sym, ap, ◌∙◌}
+use mathlib.Core.Bool.{true, false}
 use mathlib.Core.List.{List, [], ◌++◌, append_assoc}
-use Prim.Native.Nat.{ℕ, ◌+◌, ◌≤◌}
+use Prim.Native.Nat.{ℕ, ◌+◌, ◌-◌, ◌≤◌, ◌<◌}
 use native.Mathlib.Omega.{arith}
+use borrow.Author.Tests.{le-leb, lt-leb}
+use borrow.Rule.Slice.PartMut.{put_mid, Post-is}
 use lib.ListN.{length, take, drop, length-append, length-take, length-drop, take-append-drop}
 use lib.Seq.{take_at, drop_at, drop-drop}
-use Rattle.store.specs.Store.{written}
+use Rattle.store.specs.Store.{Put, written}
+
+-- without room nothing is put
+pub put_full : (d bs : List ℕ) (at : ℕ) → length d < at + length bs → Put d at bs false d
+put_full d bs at h = let e = lt-leb (at + length bs) (length d) h in record { told = rw e; buffer = rw e }
+
+-- with room the bytes lie in the place of those that stood there
+put_is : (d bs : List ℕ) (at : ℕ) → put_mid at (at + length bs - at) d bs ≡ written d at bs
+unfolding written
+put_is d bs at =
+    ap (λ (l : List ℕ). take at d ++ (bs ++ l)) (Post-is at (at + length bs) d (omega arith)) ∙ sym (append_assoc (take at d) bs (drop (at + length bs) d))
+
+pub put_done : (d bs part : List ℕ) (at : ℕ) → at + length bs ≤ length d → part ≡ bs → Put d at bs true (put_mid at (at + length bs - at) d part)
+put_done d bs part at h e = let r = le-leb (at + length bs) (length d) h in record { told = rw r; buffer = rw (r, e) (put_is d bs at) }
 
 module _ (d : List ℕ) (at : ℕ) (bs : List ℕ) where
   pub written_length : at + length bs ≤ length d → length (written d at bs) ≡ length d

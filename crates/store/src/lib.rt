@@ -4,6 +4,7 @@
 ghost use Rattle.store.specs.Store.{Put};
 
 // Copies `src` into `buf` from `at` on, and tells whether it had room; where it had none, `buf` stays as it was. `Put` speaks of that `bool`.
+#[tactic(auto, using(crate::proofs::Laws::put_full, crate::proofs::Laws::put_done))]
 pub fn put(buf: &mut [u8], at: usize, src: &[u8]) -> bool
     ensures { Put buf.old at src.now result buf.new }
 {
