@@ -33,7 +33,7 @@ none m n e = elim (dec_le n m) [
 ]
 
 -- a place that the search ends at lies ahead, and inside the text
-is_until : (s : List ℕ) (at b r : ℕ) → until_of s at b ≡ r → Until s at b r
+pub is_until : (s : List ℕ) (at b r : ℕ) → until_of s at b ≡ r → Until s at b r
 is_until s at b r e = let w = run_to_within (λ x. not (eqb x b)) s at in rw (← e) (record { place = refl; ahead = w.0; inside = omega (arith, w.1) })
 
 module _ (s : List ℕ) (at b : ℕ) where

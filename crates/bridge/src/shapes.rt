@@ -15,6 +15,7 @@ use layout::{Arc, ArcVars, Circle, CircleVars, Layout, MOST, Point, PointVars, S
 const TOO_MANY: usize = MOST + 1;
 
 // The layout with these counts at the stage with a number; with no such stage, one that cannot be.
+#[tactic(auto, using(crate::proofs::Parts::known_stage, crate::proofs::Parts::unknown_stage), unfolding(crate::specs::Given::layout_by))]
 fn layout_by(points: usize, circles: usize, arcs: usize, stage: usize) -> Layout
     ensures { result ≡ layout_by points circles arcs stage }
 {

@@ -1,11 +1,8 @@
 // Which record declares a label: chains of declarations by the hash of their labels, and a walk along one.
 ghost use Rattle.std.specs.Prelude.{◌≡◌, true, ◌≤◌, ◌<◌, length};
 ghost use Rattle.kinds.specs.Kinds.{new_point, new_arc};
-ghost use Rattle.record.specs.Record.{most_records};
-ghost use Rattle.record.specs.Decode.{count_of as records_in};
 ghost use Rattle.names.specs.Labels.{drawn, labelled};
-ghost use Rattle.names.specs.Chains.{chains, hash_of, hashed, first_from, NextsFrom, Chained};
-ghost use Rattle.names.specs.Steps.{FilledWith};
+ghost use Rattle.names.specs.Chains.{hash_of, hashed, first_from, NextsFrom, Chained};
 
 use crate::laid::Laid;
 use crate::pieces::front;
@@ -23,12 +20,14 @@ pub(crate) struct Chains {
 }
 
 impl Chains {
-    // Links the declarations: from the last record to the first, each goes to the front of its chain.
+    // Makes the chains of the declarations: from the last record to the first, each goes to the front of its chain.
     pub(crate) fn link(&mut self, page: &Laid)
-        requires { FilledWith chains (records_in page.now.records.now) self.old.heads × (length self.old.nexts ≡ most_records) }
         ensures { Chained (drawn page.now.text.now page.now.records.now) self.new.heads self.new.nexts }
     {
         let n = page.count();
+        let none = n as u16;
+        self.heads.fill(none);
+        self.nexts.fill(none);
         for i in (0..n).rev() {
             let declares = page.kind(i) <= NEW_ARC;
             if declares {

@@ -113,15 +113,15 @@ pub fn resolve(
     let Some(page) = Laid::of(text, records) else {
         return false;
     };
-    let n = page.count() as u16;
+    // Zeros are written where they lie, where another number would be copied there.
     let mut chains = Chains {
-        heads: [n; HEADS],
-        nexts: [n; MOST],
+        heads: [0; HEADS],
+        nexts: [0; MOST],
     };
     chains.link(&page);
     names.fill(0);
     name_all(&page, &chains, names);
-    guesses.fill(n);
+    guesses.fill(page.count() as u16);
     note(records, names, guesses);
     true
 }

@@ -1,6 +1,6 @@
 -- `names::resolve` meets its contract: of records that are laid out the chains are made, and by them the names, and by those the guesses.
 -- Assumes nothing.
-use mathlib.Core.Path.{◌≡◌, refl, sym}
+use mathlib.Core.Path.{◌≡◌, sym}
 use mathlib.Core.Bool.{true}
 use Prim.Native.Nat.{◌≤◌}
 use native.Mathlib.Omega.{arith}
@@ -8,7 +8,6 @@ use lib.ListN.{length}
 use Rattle.record.specs.Record.{most_records}
 use Rattle.record.specs.Laid.{laid_out}
 use Rattle.names.specs.Labels.{drawn}
-use Rattle.names.specs.Chains.{chains}
 use Rattle.names.specs.Names.{name_places, names_of, guess_places}
 use Rattle.names.proofs.Drawn.{laid_by, drawn_length}
 use Rattle.names.proofs.Tables.{filled, names_inside, noted_all}
@@ -17,17 +16,14 @@ use Rattle.names.proofs.resolve.Goals as goal
 pub name_all-requires : goal.name_all-requires
 name_all-requires c = (c.link.ensures, filled name_places 0 _ _ (omega arith) (c.fill.ensures.after (λ y e. e)))
 
-pub link-requires : goal.link-requires
-link-requires c = (rw (← c.count-n.ensures) (filled chains _ _ _ refl refl), refl)
-
-pub overflow_cast-n : goal.overflow_cast-n
-overflow_cast-n c = omega (arith, c.count-n.ensures, (laid_by _ _ c.in-Some.page.laid).few)
+pub overflow_cast-count : goal.overflow_cast-count
+overflow_cast-count c = omega (arith, c.count.ensures, (laid_by _ _ c.in-Some.page.laid).few)
 
 pub note-requires : goal.note-requires
 note-requires c =
     let a = c.args in let (t, r) = c.in-Some.ensures in
     let w = laid_by a.text.now a.records.now (rw (t, r) at c.in-Some.page.laid) in let few : length (drawn a.text.now a.records.now) ≤ most_records = rw drawn_length w.few in
-    (w.few, (λ k. rw (c.name_all.ensures, t, r) (names_inside _ few k)), filled guess_places _ _ _ (omega arith) (rw (c.count-n.ensures, r) at (c.fill-2.ensures.after (λ y e. e))))
+    (w.few, (λ k. rw (c.name_all.ensures, t, r) (names_inside _ few k)), filled guess_places _ _ _ (omega arith) (rw (c.count.ensures, r) at (c.fill-2.ensures.after (λ y e. e))))
 
 pub returns : goal.returns
 returns c =

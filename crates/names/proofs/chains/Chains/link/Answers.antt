@@ -10,14 +10,19 @@ use Rattle.record.specs.Decode.{count_of}
 use Rattle.names.specs.Labels.{drawn, kind_no, within}
 use Rattle.names.proofs.Laws.{says_within}
 use Rattle.names.proofs.First.{firsts_none}
+use Rattle.names.proofs.Tables.{filled}
+use Rattle.names.specs.Chains.{chains}
 use Rattle.names.proofs.Drawn.{laid_by, known_at, labels_some, drawn_length, drawn_kind}
 use Rattle.names.proofs.Links.{links_out, links_in}
 use Rattle.names.proofs.chains.Chains.link.Goals as goal
 
+pub overflow_cast-none : goal.overflow_cast-none
+overflow_cast-none c = omega (arith, c.count-n.ensures, (laid_by _ _ c.args.page.now.laid).few)
+
 pub loop-i-init : goal.loop-i-init
 loop-i-init c =
     let p = c.args.page.now in let n = drawn_length p.text.now p.records.now in
-    (record { head = firsts_none _ _ _ _ _ (omega (arith, n, c.count-n.ensures)) (rw c.count-n.ensures c.requires.0); next = λ i a b. absurd (omega (arith, a, b, n, c.count-n.ensures)) }, c.requires.1)
+    (record { head = firsts_none _ _ _ _ _ (omega (arith, n, c.count-n.ensures)) (filled chains _ _ _ (omega arith) (c.fill.ensures.after (λ y e. e))); next = λ i a b. absurd (omega (arith, a, b, n, c.count-n.ensures)) }, omega arith)
 
 pub bounds-self-i : goal.bounds-self-i
 bounds-self-i c = omega (arith, c.count-n.ensures, (laid_by _ _ c.args.page.now.laid).few)
